@@ -1,0 +1,3 @@
+pub mod Wrapped
+pub mod Cases
+pub mod RoundTrip

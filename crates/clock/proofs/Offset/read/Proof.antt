@@ -1,0 +1,40 @@
+use borrow.Author.Needs.{needs}
+use native.Mathlib.Omega.{arith}
+use Rattle.clock.proofs.Cases.{read-plus, read-minus, read-big, read-zero, read-over, read-sign}
+use Rattle.clock.proofs.Offset.read.Statement.{statement}
+use Rattle.clock.proofs.Offset.read.Tie as tie
+
+cast-t5 : tie.Need-cast-t5
+cast-t5 c = search needs
+
+returns : tie.Need-returns
+returns c =
+    read-plus _ _ (c .before .if1 .taken) (c .if2 .taken)
+
+returns-2 : tie.Need-returns-2
+returns-2 c =
+    read-big _ _ (c .before .if1 .taken) (c .if2 .left)
+
+minus-of-requires : tie.Need-minus-of-requires
+minus-of-requires c κs = search needs
+
+returns-3 : tie.Need-returns-3
+returns-3 c =
+    read-minus _ _ (c .before .before .before .if3 .taken) (c .before .before .if4 .taken) (c .before .if5 .taken) (c .minus-of .result) (c .minus-of .ensures)
+
+returns-4 : tie.Need-returns-4
+returns-4 c =
+    read-over _ _ (c .before .before .if3 .taken) (c .if5 .left)
+
+returns-5 : tie.Need-returns-5
+returns-5 c =
+    read-zero _ _ (c .before .if3 .taken) (c .if4 .left)
+
+returns-6 : tie.Need-returns-6
+returns-6 c =
+    read-sign _ _ (c .before .if1 .left) (c .if3 .left)
+
+pub read-spec : {M : Type 1} → statement M
+read-spec =
+    tie.close
+    (tie.spec cast-t5 returns returns-2 minus-of-requires returns-3 returns-4 returns-5 returns-6)

@@ -1,0 +1,195 @@
+// Counts, offsets and ages: three kinds of number that never mix.
+ghost use mathlib.Core.Path.{_≡_};
+ghost use Prim.Native.Nat.{_≤_, _^_};
+ghost use lib.Signed.{ltZ};
+ghost use lib.IntN.{pos, negℤ, natAbs, _+ℤ_, _-ℤ_};
+ghost use Rattle.clock.specs.Clock.{wrapped, centred, goesBack, waitOf, ageOf, verdictOf, signMagnitudeOf, offsetRead};
+
+// A clock's count of 10 ms ticks, mod 2^32.
+pub struct Count(pub u32);
+
+// Own count minus the peer's.
+pub struct Offset(pub i32);
+
+// How old a message is; negative where it seems to come from the future.
+pub struct Age(pub i32);
+
+// What an age says of a message: 206, 205, or handed up.
+pub enum Verdict {
+    Future,
+    Late,
+    Fresh,
+}
+
+// An offset as a message carries it.
+pub struct SignMagnitude {
+    pub sign: u8,
+    pub magnitude: u32,
+}
+
+// The offset that a sign and a magnitude give.
+pub enum OffsetRead {
+    Is(Offset),
+    Malformed,
+}
+
+impl Count {
+    // Whether the clock goes back from the last accepted now to this one.
+    pub fn goes_back(self, last: Count) -> bool
+        ensures { λ r. ⌜ r ≡ goesBack (self .0) (last .0) ⌝ }
+    {
+        let apart = Offset::between(self, last);
+        apart.negative()
+    }
+
+    // How long a wait has lasted that a send at since began: not centred.
+    pub fn waited(self, since: Count) -> u32
+        ensures { λ r. ⌜ r ≡ waitOf (self .0) (since .0) ⌝ }
+    {
+        std::num::wrapping_sub_u32(self.0, since.0)
+    }
+}
+
+impl Offset {
+    // -m, down to -2^31.
+    fn minus_of(m: u32) -> Offset
+        requires { ⌜ m ≤ 2 ^ 31 ⌝ }
+        ensures { λ r. ⌜ r .0 ≡ negℤ (pos m) ⌝ }
+    {
+        Offset((-(m as i64)) as i32)
+    }
+
+    // The number that is x mod 2^32.
+    fn of_bits(x: u32) -> Offset
+        ensures { λ r. ⌜ r .0 ≡ centred (pos x) ⌝ }
+    {
+        if x < 0x8000_0000 {
+            Offset(x as i32)
+        } else {
+            Offset::minus_of(0xffff_ffff - x + 1)
+        }
+    }
+
+    // The number mod 2^32.
+    fn bits(self) -> u32
+        ensures { λ r. ⌜ r ≡ wrapped (self .0) ⌝ }
+    {
+        let z = self.0;
+        let m = self.size();
+        if z < 0 {
+            std::num::wrapping_sub_u32(0, m)
+        } else {
+            m
+        }
+    }
+
+    // The centred difference of two counts.
+    pub fn between(own: Count, peer: Count) -> Offset
+        ensures { λ r. ⌜ r .0 ≡ centred (pos (own .0) -ℤ pos (peer .0)) ⌝ }
+    {
+        Offset::of_bits(std::num::wrapping_sub_u32(own.0, peer.0))
+    }
+
+    // Its size, up to 2^31, which is no i32.
+    pub fn size(self) -> u32
+        ensures { λ r. ⌜ r ≡ natAbs (self .0) ⌝ }
+    {
+        let z = self.0;
+        if z < 0 {
+            (-(z as i64)) as u32
+        } else {
+            z as u32
+        }
+    }
+
+    pub fn negative(self) -> bool
+        ensures { λ r. ⌜ r ≡ ltZ (self .0) (pos 0) ⌝ }
+    {
+        self.0 < 0
+    }
+
+    // Of -2^31 it is -2^31 again, mod 2^32 and centred.
+    pub fn negated(self) -> Offset
+        ensures { λ r. ⌜ r .0 ≡ centred (negℤ (self .0)) ⌝ }
+    {
+        Offset::of_bits(std::num::wrapping_sub_u32(0, self.bits()))
+    }
+
+    pub fn plus(self, other: Offset) -> Offset
+        ensures { λ r. ⌜ r .0 ≡ centred (self .0 +ℤ other .0) ⌝ }
+    {
+        Offset::of_bits(std::num::wrapping_add_u32(self.bits(), other.bits()))
+    }
+
+    pub fn minus(self, other: Offset) -> Offset
+        ensures { λ r. ⌜ r .0 ≡ centred (self .0 -ℤ other .0) ⌝ }
+    {
+        Offset::of_bits(std::num::wrapping_sub_u32(self.bits(), other.bits()))
+    }
+
+    // As a message carries it.
+    pub fn sign_magnitude(self) -> SignMagnitude
+        ensures { λ r. ⌜ r ≡ signMagnitudeOf (self .0) ⌝ }
+    {
+        let z = self.0;
+        let m = self.size();
+        if z < 0 {
+            SignMagnitude {
+                sign: 1,
+                magnitude: m,
+            }
+        } else {
+            SignMagnitude {
+                sign: 0,
+                magnitude: m,
+            }
+        }
+    }
+
+    // From what a message carries.
+    pub fn read(sign: u8, magnitude: u32) -> OffsetRead
+        ensures { λ r. ⌜ r ≡ offsetRead sign magnitude ⌝ }
+    {
+        if sign == 0 {
+            if magnitude < 0x8000_0000 {
+                return OffsetRead::Is(Offset(magnitude as i32));
+            }
+            return OffsetRead::Malformed;
+        }
+        if sign == 1 {
+            if 0 < magnitude {
+                if magnitude <= 0x8000_0000 {
+                    return OffsetRead::Is(Offset::minus_of(magnitude));
+                }
+            }
+        }
+        OffsetRead::Malformed
+    }
+}
+
+impl Age {
+    // now - stamp + E - min, mod 2^32 and centred.
+    pub fn of(now: Count, stamp: Count, e: u32, min: Offset) -> Age
+        ensures { λ r. ⌜ r .0 ≡ ageOf (now .0) (stamp .0) e (min .0) ⌝ }
+    {
+        let apart = std::num::wrapping_sub_u32(now.0, stamp.0);
+        let later = std::num::wrapping_add_u32(apart, e);
+        let x = Offset::of_bits(std::num::wrapping_sub_u32(later, min.bits()));
+        Age(x.0)
+    }
+
+    // What T_max makes of it.
+    pub fn judged(self, t_max: u32) -> Verdict
+        ensures { λ r. ⌜ r ≡ verdictOf (self .0) «t_max» ⌝ }
+    {
+        let z = self.0;
+        if z < 0 {
+            return Verdict::Future;
+        }
+        if t_max < z as u32 {
+            Verdict::Late
+        } else {
+            Verdict::Fresh
+        }
+    }
+}

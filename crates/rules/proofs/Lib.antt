@@ -1,0 +1,3 @@
+pub mod Tests
+pub mod Integers
+pub mod Modulo

@@ -1,0 +1,7 @@
+-- "mod m": the number of 0 .. m - 1 that differs from z by a multiple of m.
+use Prim.Native.Nat.{ℕ, suc, _-_, _%_}
+use lib.IntN.{ℤ, pos, negsuc}
+
+unfoldable pub modulo : ℤ → ℕ → ℕ
+modulo (pos n) m = n % m
+modulo (negsuc n) m = m - suc (n % m)

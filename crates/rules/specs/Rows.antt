@@ -1,0 +1,7 @@
+-- A table of 01 as rows in 01's order: the first row that applies gives the answer.
+use mathlib.Core.Bool.{Bool, true, false}
+
+infixr 1 when_answer_else_
+abbrev pub when_answer_else_ : {A : Type 0} → Bool → A → A → A
+when true answer a else rest = a
+when false answer a else rest = rest
