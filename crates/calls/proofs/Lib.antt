@@ -1,0 +1,5 @@
+pub mod Replies
+pub mod Promises
+pub mod Valid
+pub mod Opening
+pub mod Delivery

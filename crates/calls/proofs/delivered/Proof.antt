@@ -1,0 +1,39 @@
+-- `calls::delivered` meets its contract. Assumes nothing.
+use Prim.Native.Nat.{ℕ, _-_}
+use mathlib.Core.Path.{_≡_, ap, ap₂, sym, _∙_}
+use mathlib.Core.List.{List}
+use native.Mathlib.Omega.{arith}
+use lib.ListN.{length, take}
+use lib.Seq.{take-all}
+use Rattle.calls.specs.Calls.{deliveredOf}
+use borrow.Author.Needs.{needs}
+use Rattle.calls.proofs.delivered.Statement.{statement}
+use Rattle.calls.proofs.delivered.Tie as tie
+
+data-requires : tie.Need-data-requires
+data-requires c κs = search needs
+
+returns : tie.Need-returns
+unfolding deliveredOf
+returns c = c .before .«data» .ensures ∙ sym (take-all (c .before .before .before .args .n) _ (omega (arith, ap length (c .before .«data» .ensures))))
+
+sub-result : tie.Need-sub-result
+sub-result c = search needs
+
+part-result-start : tie.Need-part-result-start
+part-result-start c = search needs
+
+part-result-end : tie.Need-part-result-end
+part-result-end c = search needs
+
+returns-2 : tie.Need-returns-2
+unfolding deliveredOf
+returns-2 c =
+    let n : ℕ = c .before .before .before .before .args .n in
+    let e : n - 0 ≡ n = omega arith in
+    ap₂ (λ (k : ℕ) (l : List ℕ). take k l) e (c .before .before .«data» .ensures)
+
+pub delivered-spec : {M : Type 1} → statement M
+delivered-spec =
+    tie.close
+    (tie.spec data-requires returns sub-result part-result-start part-result-end returns-2)

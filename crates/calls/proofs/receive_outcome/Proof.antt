@@ -1,0 +1,65 @@
+-- `calls::receive_outcome` meets its contract. Assumes nothing.
+use Rattle.rules.proofs.Tests.{tests}
+use Rattle.calls.specs.Calls.{receiveOutcome}
+use borrow.Author.Needs.{needs}
+use Rattle.calls.proofs.receive_outcome.Statement.{statement}
+use Rattle.calls.proofs.receive_outcome.Tie as tie
+
+receive-refusal-requires : tie.Need-receive-refusal-requires
+receive-refusal-requires c κs = search needs
+
+kept-requires : tie.Need-kept-requires
+kept-requires c κs = search needs
+
+returns : tie.Need-returns
+unfolding receiveOutcome
+returns c = search (tests, c .kept .ensures, ← (c .before .before .receive-refusal .ensures))
+
+has-expired-requires : tie.Need-has-expired-requires
+has-expired-requires c κs = search needs
+
+released-requires : tie.Need-released-requires
+released-requires c κs = search needs
+
+returns-2 : tie.Need-returns-2
+unfolding receiveOutcome
+returns-2 c =
+    search (
+      tests,
+      c .released .ensures,
+      c .before .if2 .taken,
+      ← (c .before .before .has-expired .ensures),
+      ← (c .before .before .before .before .receive-refusal .ensures),
+    )
+
+parse-requires : tie.Need-parse-requires
+parse-requires c κs = search needs
+
+step-requires : tie.Need-step-requires
+step-requires c κs = search needs
+
+returns-3 : tie.Need-returns-3
+unfolding receiveOutcome
+returns-3 c =
+    search (
+      tests,
+      c .step .ensures,
+      c .before .parse .ensures,
+      c .before .before .if2 .left,
+      ← (c .before .before .before .has-expired .ensures),
+      ← (c .before .before .before .before .before .receive-refusal .ensures),
+    )
+
+pub receive-outcome-spec : {M : Type 1} → statement M
+receive-outcome-spec =
+    tie.close
+    (tie.spec
+    receive-refusal-requires
+    kept-requires
+    returns
+    has-expired-requires
+    released-requires
+    returns-2
+    parse-requires
+    step-requires
+    returns-3)

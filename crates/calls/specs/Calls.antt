@@ -1,0 +1,152 @@
+-- The five calls on one record: the caller's faults in 01's order, the wait that expires, and every byte of the out buffer.
+use Prim.Native.Nat.{ℕ, _+_}
+use mathlib.Core.Bool.{Bool, true, not, _&&_, _||_}
+use mathlib.Core.List.{List, []}
+use lib.Dec.{ltb, leb, eqb}
+use lib.ListN.{length, take}
+use lib.Seq.{sets}
+use Rattle.rules.specs.Rows.{when_answer_else_}
+use Rattle.clock.specs.Clock.{goesBack, waitOf}
+use Rattle.clock.specs.declared.Count.{Count}
+use Rattle.message.specs.Layout.{periodTail, dataTail}
+use Rattle.message.specs.Read.{parsedOf, dataOf}
+use Rattle.message.specs.Write.{messageBytes, writes}
+use Rattle.message.specs.declared.Header.{Header}
+use Rattle.connection.specs.declared.Settings.{Settings}
+use Rattle.connection.specs.declared.Connection.{Connection}
+use Rattle.connection.specs.Connection.{closed, initiatorWaitsFor2, responderWaitsFor1, opened, outOfRange, unsound, clocked, sent, waiting, begun}
+use Rattle.judging.specs.declared.Reply.{Reply}
+use Rattle.judging.specs.declared.Reply.the-variants.{Nothing, Send}
+use Rattle.judging.specs.declared.Outcome.{Outcome}
+use Rattle.judging.specs.Judging.{keeps, releases, sends, stepOf}
+use Rattle.calls.specs.declared.Answer.{Answer}
+
+-- ---- caller's faults, judged in the order listed: the number of the first, 0 where there is none
+
+infixr 1 _then_
+-- the faults of one list, then those of the next
+abbrev pub _then_ : ℕ → ℕ → ℕ
+k then rest = when eqb k 0 answer rest else k
+
+-- the slot's record not closed with a setting or phase out of range or an error counter not under its limit
+unfoldable pub bad : Connection → Bool
+bad c = not (eqb (c .phase) closed) && unsound c
+
+-- Close: 101, 102
+unfoldable pub closeRefusal : Connection → ℕ
+closeRefusal c =
+    when bad c answer 101 else
+    when eqb (c .phase) closed answer 102 else
+    0
+
+-- Tick: 101, 102, 105
+unfoldable pub tickRefusal : Connection → Count → ℕ
+tickRefusal c now =
+    closeRefusal c then
+    when goesBack (now .0) (c .clock .0) answer 105 else
+    0
+
+-- Receive: 101, 102, 105, 108 (25)
+unfoldable pub receiveRefusal : Connection → Count → ℕ → ℕ
+receiveRefusal c now room =
+    tickRefusal c now then
+    when ltb room 25 answer 108 else
+    0
+
+-- Send: 101, 102, 105, 106, 107, 108 (15 + data)
+unfoldable pub sendRefusal : Connection → Count → ℕ → ℕ → ℕ
+sendRefusal c now size room =
+    tickRefusal c now then
+    when not (eqb (c .phase) opened) answer 106 else
+    when ltb 985 size answer 107 else
+    when ltb room (15 + size) answer 108 else
+    0
+
+-- Begin: 101, 103, 104, 108 (initiator, 19); role 0 initiator, 1 responder, others 104
+unfoldable pub beginRefusal : Connection → ℕ → Settings → ℕ → ℕ
+beginRefusal c role settings room =
+    when bad c answer 101 else
+    when not (eqb (c .phase) closed) answer 103 else
+    when ltb 1 role || outOfRange settings answer 104 else
+    when eqb role 0 && ltb room 19 answer 108 else
+    0
+
+-- no record, no lent byte and no remembered clock changes
+abbrev pub refused : ℕ → Connection → Outcome
+refused k c = keeps k 0 c
+
+-- ---- 207
+
+-- a wait begun by a send; the responder's wait for 1 has no timer
+unfoldable pub timed : ℕ → Bool
+timed phase = not (eqb phase responderWaitsFor1) && not (eqb phase opened)
+
+-- expires when now minus that send's now, mod 2^32 and not centred, is >= T_start
+unfoldable pub expired : Connection → Count → Bool
+expired c now = timed (c .phase) && leb (c .settings .«t_start») (waitOf (now .0) (c .«wait_start» .0))
+
+-- ---- the calls
+
+unfoldable pub receiveOutcome : Connection → Count → List ℕ → ℕ → Outcome
+receiveOutcome c now message room =
+    when not (eqb (receiveRefusal c now room) 0) answer refused (receiveRefusal c now room) c else
+    when expired c now answer releases 207 0 else
+    stepOf c now (parsedOf message)
+
+unfoldable pub tickOutcome : Connection → Count → Outcome
+tickOutcome c now =
+    when not (eqb (tickRefusal c now) 0) answer refused (tickRefusal c now) c else
+    when expired c now answer releases 207 0 else
+    keeps 0 0 (clocked c now)
+
+unfoldable pub closeOutcome : Connection → Outcome
+closeOutcome c =
+    when not (eqb (closeRefusal c) 0) answer refused (closeRefusal c) c else
+    releases 0 0
+
+-- application data carries the remembered peer stamp and its arrival
+abbrev pub dataHeader : Connection → Count → Header
+dataHeader c now = record { kind = 6; number = c .«own_number»; stamp = now; «last_peer_stamp» = c .«peer_stamp»; arrival = c .arrival }
+
+unfoldable pub sendOutcome : Connection → Count → ℕ → ℕ → Outcome
+sendOutcome c now size room =
+    when not (eqb (sendRefusal c now size room) 0) answer refused (sendRefusal c now size room) c else
+    sends (dataHeader c now) (dataTail size) (sent (clocked c now))
+
+-- OffsetStart: both later stamps are 0
+abbrev pub startHeader : ℕ → Count → Header
+startHeader first now = record { kind = 1; number = first; stamp = now; «last_peer_stamp» = record { 0 = 0 }; arrival = record { 0 = 0 } }
+
+unfoldable pub beginOutcome : Connection → ℕ → Settings → ℕ → ℕ → Count → ℕ → Outcome
+beginOutcome c role settings first period now room =
+    when not (eqb (beginRefusal c role settings room) 0) answer refused (beginRefusal c role settings room) c else
+    when eqb role 0 answer
+    sends (startHeader first now) (periodTail period) (waiting (sent (begun settings initiatorWaitsFor2 first period now)) initiatorWaitsFor2 now)
+    else
+    keeps 0 0 (begun settings responderWaitsFor1 first period now)
+
+-- ---- what a call answers, and the out buffer
+
+-- the bytes of what is sent
+abbrev pub replyBytes : Reply → List ℕ → List ℕ
+replyBytes Nothing lent = []
+replyBytes (Send h t) lent = messageBytes h t lent
+
+abbrev pub answerWith : Outcome → ℕ → Answer
+answerWith o written = record { number = o .answer; released = o .released; written = written; delivered = o .delivered; next = o .next }
+
+abbrev pub answerOf : Outcome → List ℕ → Answer
+answerOf o lent = answerWith o (length (replyBytes (o .reply) lent))
+
+-- bytes of the out buffer past what is written stay
+abbrev pub outAfter : Outcome → List ℕ → List ℕ → List ℕ
+outAfter o lent out = sets out 0 (replyBytes (o .reply) lent)
+
+-- there is something to write, and the writer takes it
+abbrev pub writable : Reply → ℕ → ℕ → Bool
+writable Nothing room n = true
+writable (Send h t) room n = writes room h t n
+
+-- what a receive delivers: a part of the message, from byte 15 on
+unfoldable pub deliveredOf : List ℕ → ℕ → List ℕ
+deliveredOf message n = take n (dataOf message)

@@ -1,0 +1,88 @@
+-- What the five calls promise beyond their equations: which numbers they answer, when a slot is released, what a record can become.
+use Prim.Native.Nat.{ℕ, _+_}
+use mathlib.Core.Path.{_≡_}
+use mathlib.Core.Bool.{Bool, true, false, not, _&&_, _||_}
+use mathlib.Core.List.{List, [], _∷_, _++_}
+use mathlib.Core.Logic.{_⊎_}
+use lib.Dec.{ltb, leb, eqb}
+use Rattle.rules.specs.Rows.{when_answer_else_}
+use Rattle.connection.specs.declared.Connection.{Connection}
+use Rattle.connection.specs.Connection.{closed, opened, unsound, released}
+use Rattle.judging.specs.declared.Outcome.{Outcome}
+use Rattle.judging.specs.declared.Reply.the-variants.{Nothing}
+
+infix 40 _among_
+-- whether a number is one of a list
+abbrev pub _among_ : ℕ → List ℕ → Bool
+k among [] = false
+k among (n ∷ ns) = eqb k n || (k among ns)
+
+-- "Begin: 101, 103, 104, 108. Receive: 101, 102, 105, 108. Send: 101, 102, 105, 106, 107, 108. Tick: 101, 102, 105. Close: 101, 102."
+abbrev pub beginRefuses : List ℕ
+beginRefuses = 101 ∷ 103 ∷ 104 ∷ 108 ∷ []
+
+abbrev pub receiveRefuses : List ℕ
+receiveRefuses = 101 ∷ 102 ∷ 105 ∷ 108 ∷ []
+
+abbrev pub sendRefuses : List ℕ
+sendRefuses = 101 ∷ 102 ∷ 105 ∷ 106 ∷ 107 ∷ 108 ∷ []
+
+abbrev pub tickRefuses : List ℕ
+tickRefuses = 101 ∷ 102 ∷ 105 ∷ []
+
+abbrev pub closeRefuses : List ℕ
+closeRefuses = 101 ∷ 102 ∷ []
+
+-- "Peer's faults, in order": 207, 201, 211, 202, 203, 208, 209, 206, 205, 204
+abbrev pub peersFaults : List ℕ
+peersFaults = 207 ∷ 201 ∷ 211 ∷ 202 ∷ 203 ∷ 208 ∷ 209 ∷ 206 ∷ 205 ∷ 204 ∷ []
+
+-- "Success is 0"
+abbrev pub beginNumbers : List ℕ
+beginNumbers = beginRefuses ++ (0 ∷ [])
+
+abbrev pub receiveNumbers : List ℕ
+receiveNumbers = receiveRefuses ++ (peersFaults ++ (0 ∷ []))
+
+abbrev pub sendNumbers : List ℕ
+sendNumbers = sendRefuses ++ (0 ∷ [])
+
+abbrev pub tickNumbers : List ℕ
+tickNumbers = tickRefuses ++ (207 ∷ 0 ∷ [])
+
+abbrev pub closeNumbers : List ℕ
+closeNumbers = closeRefuses ++ (0 ∷ [])
+
+-- a 1xx
+abbrev pub callersFault : ℕ → Bool
+callersFault k = leb 100 k && ltb k 200
+
+-- "no record, no lent byte and no remembered clock changes", and the slot is not released
+pub record Unchanged (c : Connection) (o : Outcome) : Type 0 where
+  pub same-record : o .next ≡ c
+  pub nothing-written : o .reply ≡ Nothing
+  pub nothing-delivered : o .delivered ≡ 0
+  pub not-released : o .released ≡ false
+
+-- Whether a receive or a tick that answers k to this record releases it. "Every error in set-up releases"; when open 203 does, 201 and 211 don't, and
+-- 202, 204, 205 and 206 do where they reach the limit.
+unfoldable pub releasedBy : Connection → ℕ → Bool
+releasedBy c k =
+    when eqb k 0 || callersFault k answer false else
+    when not (eqb (c .phase) opened) answer true else
+    when eqb k 203 answer true else
+    when eqb k 201 || eqb k 211 answer false else
+    leb (c .settings .limit) (c .errors + 1)
+
+-- closed, or with every setting and the phase in range and the error counter under its limit
+abbrev pub Valid : Connection → Type 0
+Valid c = (c .phase ≡ closed) ⊎ (unsound c ≡ false)
+
+-- "a released slot is all zero", and any other stays valid
+pub record Stays (o : Outcome) : Type 0 where
+  pub zero : o .released ≡ true → o .next ≡ released
+  pub valid : o .released ≡ false → Valid (o .next)
+
+-- "delivered": a 0 or a 204 of an open connection
+unfoldable pub deliversTo : Connection → ℕ → Bool
+deliversTo c k = eqb (c .phase) opened && (eqb k 0 || eqb k 204)

@@ -1,0 +1,203 @@
+-- What the peer's message does to a connection: the peer's faults in 01's order from 201 on, and what follows each.
+use Prim.Native.Nat.{ℕ, _+_}
+use mathlib.Core.Bool.{Bool, true, false, not, _&&_, _||_}
+use lib.Dec.{ltb, leb, eqb}
+use lib.IntN.{ℤ, pos, natAbs, _+ℤ_, _-ℤ_}
+use lib.Signed.{ltZ}
+use Rattle.rules.specs.Rows.{when_answer_else_}
+use Rattle.clock.specs.Clock.{centred, ageOf, verdictOf, verdictNumber}
+use Rattle.clock.specs.declared.Count.{Count}
+use Rattle.clock.specs.declared.Offset.{Offset}
+use Rattle.number.specs.Number.{distanceOf}
+use Rattle.message.specs.Layout.{periodTail, emptyTail, offsetsTail, checkTail}
+use Rattle.message.specs.declared.Header.{Header}
+use Rattle.message.specs.declared.Tail.{Tail}
+use Rattle.message.specs.declared.Parsed.{Parsed}
+use Rattle.connection.specs.declared.Connection.{Connection}
+use Rattle.connection.specs.Connection.{initiatorWaitsFor2, initiatorWaitsFor4, responderWaitsFor1, responderWaitsFor3, responderWaitsFor5, opened, released, clocked, counted, heard, sent, waiting, withOffsets}
+use Rattle.judging.specs.declared.Expectation.{Expectation}
+use Rattle.judging.specs.declared.Expectation.the-variants.{Expected, Unexpected, Released}
+use Rattle.judging.specs.declared.Reply.{Reply}
+use Rattle.judging.specs.declared.Reply.the-variants.{Nothing, Send}
+use Rattle.judging.specs.declared.Outcome.{Outcome}
+
+-- ---- what a call can come to
+
+-- the connection goes on, with so many bytes delivered
+abbrev pub keeps : ℕ → ℕ → Connection → Outcome
+keeps k delivered next = record { answer = k; released = false; delivered = delivered; reply = Nothing; next = next }
+
+-- the slot is released
+abbrev pub releases : ℕ → ℕ → Outcome
+releases k delivered = record { answer = k; released = true; delivered = delivered; reply = Nothing; next = released }
+
+-- a message is sent
+abbrev pub sends : Header → Tail → Connection → Outcome
+sends h t next = record { answer = 0; released = false; delivered = 0; reply = Send h t; next = next }
+
+-- ---- 201 and 211
+
+-- 201 malformed: when open it changes only the remembered clock; every error in set-up releases
+unfoldable pub malformedOf : Connection → Count → Outcome
+malformedOf c now =
+    when eqb (c .phase) opened answer keeps 201 0 (clocked c now) else
+    releases 201 0
+
+-- initiator waits for 2, then 4; responder waits for 1, then 3, then 5; open takes type 6
+unfoldable pub expectationOf : ℕ → ℕ → Expectation
+expectationOf phase type =
+    when eqb phase initiatorWaitsFor2 && eqb type 2 answer Expected else
+    when eqb phase initiatorWaitsFor4 && eqb type 4 answer Expected else
+    when eqb phase responderWaitsFor1 && eqb type 1 answer Expected else
+    when eqb phase responderWaitsFor3 && eqb type 3 answer Expected else
+    when eqb phase responderWaitsFor5 && eqb type 5 answer Expected else
+    when eqb phase opened && eqb type 6 answer Expected else
+    when eqb phase opened answer Unexpected else
+    Released
+
+-- ---- the numbers, the echo, the clock check and the age
+
+-- the first message's number is not judged: type 1 at the responder, type 2 at the initiator
+unfoldable pub numberJudged : ℕ → Bool
+numberJudged type = ltb 2 type
+
+-- 202 number d = 0 or >= 32768
+unfoldable pub dropped : ℕ → ℕ → Bool
+dropped type d = numberJudged type && (eqb d 0 || leb 32768 d)
+
+-- 203 d > N
+unfoldable pub tooFar : ℕ → ℕ → ℕ → Bool
+tooFar type d n = numberJudged type && ltb n d
+
+-- 204 gap, 2 <= d (<= N by the row of 203)
+unfoldable pub gap : ℕ → ℕ → Bool
+gap type d = numberJudged type && leb 2 d
+
+-- 208: each of messages 2 to 5 must echo, as last peer stamp, the stamp of the one before, which we sent
+unfoldable pub wrongEcho : ℕ → ℕ → ℕ → Bool
+wrongEcho type echo stamp = leb 2 type && leb type 5 && not (eqb echo stamp)
+
+-- its max + peer's min is 0; its max - its min is not negative; the size of its min + peer's max is at most T_off
+unfoldable pub accepts : ℤ → ℤ → ℤ → ℤ → ℕ → Bool
+accepts min max peer-min peer-max t-off =
+    eqb (natAbs (centred (max +ℤ peer-min))) 0
+    && not (ltZ (centred (max -ℤ min)) (pos 0))
+    && leb (natAbs (centred (min +ℤ peer-max))) t-off
+
+-- 209 clock check failed: the initiator's on OffsetEst, the responder's on OffsetEnd 0
+unfoldable pub checkFailed : Connection → ℕ → Tail → Bool
+checkFailed c type t =
+    eqb type 4 && not (accepts (c .min .0) (c .max .0) (t .min .0) (t .max .0) (c .settings .«t_off»))
+    || eqb type 5 && eqb (t .check) 0
+
+-- 206 and 205: for type 6 only
+unfoldable pub ageNumber : Connection → Count → Header → ℕ
+ageNumber c now h =
+    when eqb (h .kind) 6 answer verdictNumber (verdictOf (ageOf (now .0) (h .stamp .0) (c .settings .e) (c .min .0)) (c .settings .«t_max»)) else
+    0
+
+-- the peer's faults of a message that is expected, in order; 0 where there is none
+unfoldable pub faultOf : Connection → Count → Header → Tail → ℕ
+faultOf c now h t =
+    when dropped (h .kind) (distanceOf (h .number) (c .«last_number»)) answer 202 else
+    when tooFar (h .kind) (distanceOf (h .number) (c .«last_number»)) (c .settings .n) answer 203 else
+    when wrongEcho (h .kind) (h .«last_peer_stamp» .0) (c .«wait_start» .0) answer 208 else
+    when checkFailed c (h .kind) t answer 209 else
+    when eqb (ageNumber c now h) 206 answer 206 else
+    when eqb (ageNumber c now h) 205 answer 205 else
+    when gap (h .kind) (distanceOf (h .number) (c .«last_number»)) answer 204 else
+    0
+
+-- ---- a message that is taken
+
+-- own minus peer
+abbrev pub offsetBetween : Count → Count → Offset
+offsetBetween own peer = record { 0 = centred (pos (own .0) -ℤ pos (peer .0)) }
+
+-- a reply of ours is stamped with the now of the call that took the message, and echoes its stamp
+abbrev pub replyHeader : ℕ → Connection → Count → Header → Header
+replyHeader type c now h = record { kind = type; number = c .«own_number»; stamp = now; «last_peer_stamp» = h .stamp; arrival = now }
+
+-- taken and answered; the wait for the next begins now
+abbrev pub answered : Connection → Count → Header → ℕ → Connection
+answered c now h phase = waiting (sent (heard (clocked c now) h now)) phase now
+
+-- no wait runs in an open connection
+abbrev pub noWait : Count
+noWait = record { 0 = 0 }
+
+-- OffsetStart, arrived R1: OffsetAnsw1 is sent at R2 = R1
+unfoldable pub startTaken : Connection → Count → Header → Outcome
+startTaken c now h = sends (replyHeader 2 c now h) (periodTail (c .period)) (answered c now h responderWaitsFor3)
+
+-- OffsetAnsw1, arrived I2: min = I1-R1, max = I2-R2; OffsetAnsw2 is sent at I3 = I2
+unfoldable pub answ1Taken : Connection → Count → Header → Outcome
+answ1Taken c now h =
+    sends (replyHeader 3 c now h) emptyTail
+    (withOffsets (answered c now h initiatorWaitsFor4) (offsetBetween (c .«wait_start») (h .arrival)) (offsetBetween now (h .stamp)))
+
+-- OffsetAnsw2, arrived R3: min = R2-I2, max = R3-I3; OffsetEst carries them
+unfoldable pub answ2Taken : Connection → Count → Header → Outcome
+answ2Taken c now h =
+    sends (replyHeader 4 c now h) (offsetsTail (offsetBetween (c .«wait_start») (h .arrival)) (offsetBetween now (h .stamp)))
+    (withOffsets (answered c now h responderWaitsFor5) (offsetBetween (c .«wait_start») (h .arrival)) (offsetBetween now (h .stamp)))
+
+-- OffsetEst: the initiator sends OffsetEnd 1 and is open
+unfoldable pub estTaken : Connection → Count → Header → Outcome
+estTaken c now h = sends (replyHeader 5 c now h) (checkTail 1) (waiting (sent (heard (clocked c now) h now)) opened noWait)
+
+-- OffsetEnd 1: the responder opens
+unfoldable pub endTaken : Connection → Count → Header → Outcome
+endTaken c now h = keeps 0 0 (waiting (heard (clocked c now) h now) opened noWait)
+
+-- an errorless delivery sets the error counter to 0
+unfoldable pub dataTaken : Connection → Count → Header → Tail → Outcome
+dataTaken c now h t = keeps 0 (t .«data») (counted (heard (clocked c now) h now) 0)
+
+unfoldable pub takenOf : Connection → Count → Header → Tail → Outcome
+takenOf c now h t =
+    when eqb (h .kind) 1 answer startTaken c now h else
+    when eqb (h .kind) 2 answer answ1Taken c now h else
+    when eqb (h .kind) 3 answer answ2Taken c now h else
+    when eqb (h .kind) 4 answer estTaken c now h else
+    when eqb (h .kind) 5 answer endTaken c now h else
+    dataTaken c now h t
+
+-- ---- what follows a fault
+
+-- OffsetEnd 0, and released
+unfoldable pub refuses : Connection → Count → Header → Outcome
+refuses c now h = record { answer = 209; released = true; delivered = 0; reply = Send (replyHeader 5 c now h) (checkTail 0); next = released }
+
+-- the counter is raised by one; reaching the limit releases
+unfoldable pub raises : Connection → ℕ → ℕ → Outcome
+raises c k delivered =
+    when leb (c .settings .limit) (c .errors + 1) answer releases k delivered else
+    keeps k delivered (counted c (c .errors + 1))
+
+-- when open: 203 releases; 202, 204, 205 and 206 raise the counter, and a 204 message is delivered; a 202, late or future message
+-- leaves the last number and the remembered stamps
+unfoldable pub openFollowsOf : Connection → Count → Header → Tail → ℕ → Outcome
+openFollowsOf c now h t fault =
+    when eqb fault 203 answer releases 203 0 else
+    when eqb fault 204 answer raises (heard (clocked c now) h now) 204 (t .«data») else
+    raises (clocked c now) fault 0
+
+-- every error in set-up releases; only the initiator's 209 writes a message then
+unfoldable pub followsOf : Connection → Count → Header → Tail → ℕ → Outcome
+followsOf c now h t fault =
+    when eqb fault 0 answer takenOf c now h t else
+    when eqb (c .phase) opened answer openFollowsOf c now h t fault else
+    when eqb (c .phase) initiatorWaitsFor4 && eqb fault 209 answer refuses c now h else
+    releases fault 0
+
+-- ---- the step
+
+abbrev pub metOf : Connection → Count → Header → Tail → Expectation → Outcome
+metOf c now h t Expected = followsOf c now h t (faultOf c now h t)
+metOf c now h t Unexpected = keeps 211 0 (clocked c now)
+metOf c now h t Released = releases 211 0
+
+unfoldable pub stepOf : Connection → Count → Parsed → Outcome
+stepOf c now Parsed.Malformed = malformedOf c now
+stepOf c now (Parsed.Whole h t) = metOf c now h t (expectationOf (c .phase) (h .kind))

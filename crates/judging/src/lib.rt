@@ -1,0 +1,445 @@
+// Judging the peer's message, by value: what it does to a connection, and what is sent back.
+ghost use mathlib.Core.Path.{_≡_};
+ghost use Rattle.clock.specs.Clock.{verdictNumber};
+ghost use Rattle.judging.specs.Judging.{
+  keeps,
+  releases,
+  sends,
+  malformedOf,
+  expectationOf,
+  dropped,
+  tooFar,
+  gap,
+  wrongEcho,
+  accepts,
+  checkFailed,
+  ageNumber,
+  faultOf,
+  replyHeader,
+  answered,
+  startTaken,
+  answ1Taken,
+  answ2Taken,
+  estTaken,
+  endTaken,
+  dataTaken,
+  takenOf,
+  refuses,
+  raises,
+  openFollowsOf,
+  followsOf,
+  metOf,
+  stepOf,
+};
+use clock::Age;
+use clock::Count;
+use clock::Offset;
+use clock::Verdict;
+use connection::Connection;
+use message::Header;
+use message::Parsed;
+use message::Tail;
+
+// What is sent back.
+pub enum Reply {
+    Nothing,
+    Send(Header, Tail),
+}
+
+// Whether a message's type is the one awaited: if not, 211, and in set-up released.
+pub enum Expectation {
+    Expected,
+    Unexpected,
+    Released,
+}
+
+pub struct Outcome {
+    pub answer: u16,
+    pub released: bool,
+    // How many bytes of application data are delivered.
+    pub delivered: usize,
+    pub reply: Reply,
+    pub next: Connection,
+}
+
+pub fn kept(answer: u16, delivered: usize, next: Connection) -> Outcome
+    ensures { λ r. ⌜ r ≡ keeps answer delivered next ⌝ }
+{
+    Outcome {
+        answer,
+        released: false,
+        delivered,
+        reply: Reply::Nothing,
+        next,
+    }
+}
+
+pub fn released(answer: u16, delivered: usize) -> Outcome
+    ensures { λ r. ⌜ r ≡ releases answer delivered ⌝ }
+{
+    Outcome {
+        answer,
+        released: true,
+        delivered,
+        reply: Reply::Nothing,
+        next: Connection::released(),
+    }
+}
+
+pub fn sending(h: Header, t: Tail, next: Connection) -> Outcome
+    ensures { λ r. ⌜ r ≡ sends h t next ⌝ }
+{
+    Outcome {
+        answer: 0,
+        released: false,
+        delivered: 0,
+        reply: Reply::Send(h, t),
+        next,
+    }
+}
+
+fn malformed(c: Connection, now: Count) -> Outcome
+    ensures { λ r. ⌜ r ≡ malformedOf c now ⌝ }
+{
+    if c.phase == 6 {
+        return kept(201, 0, c.clocked(now));
+    }
+    released(201, 0)
+}
+
+fn expected(phase: u8, kind: u8) -> Expectation
+    ensures { λ r. ⌜ r ≡ expectationOf phase kind ⌝ }
+{
+    match phase {
+        1 => match kind {
+            2 => Expectation::Expected,
+            _ => Expectation::Released,
+        },
+        2 => match kind {
+            4 => Expectation::Expected,
+            _ => Expectation::Released,
+        },
+        3 => match kind {
+            1 => Expectation::Expected,
+            _ => Expectation::Released,
+        },
+        4 => match kind {
+            3 => Expectation::Expected,
+            _ => Expectation::Released,
+        },
+        5 => match kind {
+            5 => Expectation::Expected,
+            _ => Expectation::Released,
+        },
+        6 => match kind {
+            6 => Expectation::Expected,
+            _ => Expectation::Unexpected,
+        },
+        _ => Expectation::Released,
+    }
+}
+
+fn is_dropped(kind: u8, d: u16) -> bool
+    ensures { λ r. ⌜ r ≡ dropped kind d ⌝ }
+{
+    if kind <= 2 {
+        return false;
+    }
+    if d == 0 {
+        return true;
+    }
+    32768 <= d
+}
+
+fn is_too_far(kind: u8, d: u16, n: u16) -> bool
+    ensures { λ r. ⌜ r ≡ tooFar kind d n ⌝ }
+{
+    if kind <= 2 {
+        return false;
+    }
+    n < d
+}
+
+fn is_gap(kind: u8, d: u16) -> bool
+    ensures { λ r. ⌜ r ≡ gap kind d ⌝ }
+{
+    if kind <= 2 {
+        return false;
+    }
+    2 <= d
+}
+
+fn is_wrong_echo(kind: u8, echo: Count, stamp: Count) -> bool
+    ensures { λ r. ⌜ r ≡ wrongEcho kind (echo .0) (stamp .0) ⌝ }
+{
+    if kind < 2 {
+        return false;
+    }
+    if 5 < kind {
+        return false;
+    }
+    echo.0 != stamp.0
+}
+
+// The initiator's test of the offsets that OffsetEst carries.
+fn are_accepted(min: Offset, max: Offset, peer_min: Offset, peer_max: Offset, t_off: u32) -> bool
+    ensures { λ r. ⌜ r ≡ accepts (min .0) (max .0) («peer_min» .0) («peer_max» .0) «t_off» ⌝ }
+{
+    let sum = max.plus(peer_min);
+    if sum.size() != 0 {
+        return false;
+    }
+    let span = max.minus(min);
+    if span.negative() {
+        return false;
+    }
+    let apart = min.plus(peer_max);
+    apart.size() <= t_off
+}
+
+fn has_failed(c: Connection, kind: u8, t: Tail) -> bool
+    ensures { λ r. ⌜ r ≡ checkFailed c kind t ⌝ }
+{
+    if kind == 4 {
+        let settings = c.settings;
+        let own_min = c.min;
+        let own_max = c.max;
+        let peer_min = t.min;
+        let peer_max = t.max;
+        if are_accepted(own_min, own_max, peer_min, peer_max, settings.t_off) {
+            return false;
+        }
+        return true;
+    }
+    if kind == 5 {
+        return t.check == 0;
+    }
+    false
+}
+
+fn verdict_number(v: Verdict) -> u16
+    ensures { λ r. ⌜ r ≡ verdictNumber v ⌝ }
+{
+    match v {
+        Verdict::Future => 206,
+        Verdict::Late => 205,
+        Verdict::Fresh => 0,
+    }
+}
+
+fn age_number(c: Connection, now: Count, h: Header) -> u16
+    ensures { λ r. ⌜ r ≡ ageNumber c now h ⌝ }
+{
+    if h.kind != 6 {
+        return 0;
+    }
+    let settings = c.settings;
+    let min = c.min;
+    let stamp = h.stamp;
+    let age = Age::of(now, stamp, settings.e, min);
+    verdict_number(age.judged(settings.t_max))
+}
+
+// The peer's faults of a message that is expected, in 01's order.
+fn fault(c: Connection, now: Count, h: Header, t: Tail) -> u16
+    ensures { λ r. ⌜ r ≡ faultOf c now h t ⌝ }
+{
+    let settings = c.settings;
+    let d = number::distance(h.number, c.last_number);
+    if is_dropped(h.kind, d) {
+        return 202;
+    }
+    if is_too_far(h.kind, d, settings.n) {
+        return 203;
+    }
+    let echo = h.last_peer_stamp;
+    let stamp = c.wait_start;
+    if is_wrong_echo(h.kind, echo, stamp) {
+        return 208;
+    }
+    if has_failed(c, h.kind, t) {
+        return 209;
+    }
+    let age = age_number(c, now, h);
+    if age == 206 {
+        return 206;
+    }
+    if age == 205 {
+        return 205;
+    }
+    if is_gap(h.kind, d) {
+        return 204;
+    }
+    0
+}
+
+fn reply_header(kind: u8, c: Connection, now: Count, h: Header) -> Header
+    ensures { λ r. ⌜ r ≡ replyHeader kind c now h ⌝ }
+{
+    let stamp = h.stamp;
+    Header {
+        kind,
+        number: c.own_number,
+        stamp: now,
+        last_peer_stamp: stamp,
+        arrival: now,
+    }
+}
+
+fn with_answer(c: Connection, now: Count, h: Header, phase: u8) -> Connection
+    ensures { λ r. ⌜ r ≡ answered c now h phase ⌝ }
+{
+    c.clocked(now).heard(h, now).sent().waiting(phase, now)
+}
+
+fn start_taken(c: Connection, now: Count, h: Header) -> Outcome
+    ensures { λ r. ⌜ r ≡ startTaken c now h ⌝ }
+{
+    sending(
+        reply_header(2, c, now, h),
+        Tail::with_period(c.period),
+        with_answer(c, now, h, 4),
+    )
+}
+
+fn answ1_taken(c: Connection, now: Count, h: Header) -> Outcome
+    ensures { λ r. ⌜ r ≡ answ1Taken c now h ⌝ }
+{
+    let sent = c.wait_start;
+    let reported = h.arrival;
+    let stamp = h.stamp;
+    let min = Offset::between(sent, reported);
+    let max = Offset::between(now, stamp);
+    sending(
+        reply_header(3, c, now, h),
+        Tail::empty(),
+        with_answer(c, now, h, 2).with_offsets(min, max),
+    )
+}
+
+fn answ2_taken(c: Connection, now: Count, h: Header) -> Outcome
+    ensures { λ r. ⌜ r ≡ answ2Taken c now h ⌝ }
+{
+    let sent = c.wait_start;
+    let reported = h.arrival;
+    let stamp = h.stamp;
+    let min = Offset::between(sent, reported);
+    let max = Offset::between(now, stamp);
+    sending(
+        reply_header(4, c, now, h),
+        Tail::with_offsets(min, max),
+        with_answer(c, now, h, 5).with_offsets(min, max),
+    )
+}
+
+fn est_taken(c: Connection, now: Count, h: Header) -> Outcome
+    ensures { λ r. ⌜ r ≡ estTaken c now h ⌝ }
+{
+    sending(
+        reply_header(5, c, now, h),
+        Tail::with_check(1),
+        c.clocked(now).heard(h, now).sent().waiting(6, Count(0)),
+    )
+}
+
+fn end_taken(c: Connection, now: Count, h: Header) -> Outcome
+    ensures { λ r. ⌜ r ≡ endTaken c now h ⌝ }
+{
+    kept(0, 0, c.clocked(now).heard(h, now).waiting(6, Count(0)))
+}
+
+fn data_taken(c: Connection, now: Count, h: Header, t: Tail) -> Outcome
+    ensures { λ r. ⌜ r ≡ dataTaken c now h t ⌝ }
+{
+    kept(0, t.data, c.clocked(now).heard(h, now).counted(0))
+}
+
+fn taken(c: Connection, now: Count, h: Header, t: Tail) -> Outcome
+    ensures { λ r. ⌜ r ≡ takenOf c now h t ⌝ }
+{
+    let kind = h.kind;
+    match kind {
+        1 => start_taken(c, now, h),
+        2 => answ1_taken(c, now, h),
+        3 => answ2_taken(c, now, h),
+        4 => est_taken(c, now, h),
+        5 => end_taken(c, now, h),
+        _ => data_taken(c, now, h, t),
+    }
+}
+
+fn refusing(c: Connection, now: Count, h: Header) -> Outcome
+    ensures { λ r. ⌜ r ≡ refuses c now h ⌝ }
+{
+    Outcome {
+        answer: 209,
+        released: true,
+        delivered: 0,
+        reply: Reply::Send(reply_header(5, c, now, h), Tail::with_check(0)),
+        next: Connection::released(),
+    }
+}
+
+// One error more: at the limit the slot is released.
+fn raised(c: Connection, answer: u16, delivered: usize) -> Outcome
+    ensures { λ r. ⌜ r ≡ raises c answer delivered ⌝ }
+{
+    let settings = c.settings;
+    let errors = c.errors as u16 + 1;
+    let limit = settings.limit as u16;
+    if limit <= errors {
+        return released(answer, delivered);
+    }
+    kept(answer, delivered, c.counted(errors as u8))
+}
+
+// What follows a fault when open.
+fn open_follows(c: Connection, now: Count, h: Header, t: Tail, fault: u16) -> Outcome
+    ensures { λ r. ⌜ r ≡ openFollowsOf c now h t fault ⌝ }
+{
+    if fault == 203 {
+        return released(203, 0);
+    }
+    if fault == 204 {
+        return raised(c.clocked(now).heard(h, now), 204, t.data);
+    }
+    raised(c.clocked(now), fault, 0)
+}
+
+fn follows(c: Connection, now: Count, h: Header, t: Tail, fault: u16) -> Outcome
+    ensures { λ r. ⌜ r ≡ followsOf c now h t fault ⌝ }
+{
+    if fault == 0 {
+        return taken(c, now, h, t);
+    }
+    if c.phase == 6 {
+        return open_follows(c, now, h, t, fault);
+    }
+    if c.phase == 2 {
+        if fault == 209 {
+            return refusing(c, now, h);
+        }
+        return released(fault, 0);
+    }
+    released(fault, 0)
+}
+
+fn met(c: Connection, now: Count, h: Header, t: Tail, expectation: Expectation) -> Outcome
+    ensures { λ r. ⌜ r ≡ metOf c now h t «expectation» ⌝ }
+{
+    match expectation {
+        Expectation::Expected => follows(c, now, h, t, fault(c, now, h, t)),
+        Expectation::Unexpected => kept(211, 0, c.clocked(now)),
+        Expectation::Released => released(211, 0),
+    }
+}
+
+// The message as taken apart, or what could not be, moves the connection.
+pub fn step(c: Connection, now: Count, parsed: Parsed) -> Outcome
+    ensures { λ r. ⌜ r ≡ stepOf c now parsed ⌝ }
+{
+    let Parsed::Whole(h, t) = parsed else {
+        return malformed(c, now);
+    };
+    met(c, now, h, t, expected(c.phase, h.kind))
+}

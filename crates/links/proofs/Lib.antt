@@ -1,0 +1,12 @@
+pub mod Accepted
+pub mod Alike
+pub mod Bools
+pub mod Cases
+pub mod ClassRows
+pub mod Judgeable
+pub mod LinkRows
+pub mod Outcome
+pub mod Promises
+pub mod Reader
+pub mod Seen
+pub mod Step

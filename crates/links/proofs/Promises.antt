@@ -1,0 +1,93 @@
+-- What is promised of every step, besides its table: each promise holds of the four things that may follow (proofs/Outcome).
+-- Assumes nothing.
+use Prim.Native.Nat.{ℕ, _+_, _-_, _≤_}
+use mathlib.Core.Path.{_≡_, refl}
+use mathlib.Core.Bool.{Bool, true, false}
+use mathlib.Core.List.{List, [], List·Memᴰ}
+use mathlib.Core.Logic.{⊎-elim}
+use native.Mathlib.Omega.{arith}
+use borrow.Author.Tests.{ne-eqb, le-leb}
+use lib.ListN.{length}
+use Rattle.packet.specs.Sizes.{headerSize, leastLength}
+use Rattle.packet.specs.Packet.{headerOf, dataOf}
+use Rattle.packet.specs.RoundTrip.{PacketOn}
+use Rattle.links.specs.declared.State.{State}
+use Rattle.links.specs.declared.Taken.{Taken}
+use Rattle.links.specs.Taken.{downOf, emptyPart, handedUp}
+use Rattle.links.specs.Table.{takenOf, userDataOf}
+use Rattle.links.specs.Promises.{ofLink, answers, bytes, place, AnswersOfTheTable, DownStaysDown, UsesNoMoreThanLent, FaultsPutOneLinkDown, OthersHandUpNothing, HandsUpThePacket}
+use Rattle.links.proofs.Outcome.{entry, by-step}
+
+-- no part is handed up of another answer
+pub no-part : (normal redundant : List ℕ) (taken : Taken) → (taken .answer ≡ 0 → ⊥) → userDataOf normal redundant taken ≡ []
+unfolding userDataOf
+no-part normal redundant taken z = simp (ne-eqb _ _ z)
+
+-- the part that is handed up of a packet that stands whole at a place is its user data
+pub data-of-packet : (normal redundant : List ℕ) (link : Bool) (at : ℕ) (state : State) → PacketOn link (ofLink link normal redundant) at
+    → userDataOf normal redundant (handedUp link at (headerOf (ofLink link normal redundant) at) state) ≡ dataOf (ofLink link normal redundant) at
+unfolding userDataOf
+data-of-packet normal redundant link at state p =
+    let s = ofLink link normal redundant in
+    let h : at + headerSize + (headerOf s at .length - leastLength) ≤ length s = omega (arith, p .whole, p .least) in
+    simp (le-leb _ _ h)
+
+-- a link that is down is down after one goes down
+normal-down : (link : Bool) (state : State) → state .«normal_up» ≡ false → downOf link state .«normal_up» ≡ false
+normal-down true state e = refl
+normal-down false state e = e
+
+redundant-down : (link : Bool) (state : State) → state .«redundant_up» ≡ false → downOf link state .«redundant_up» ≡ false
+redundant-down true state e = e
+redundant-down false state e = refl
+
+module _ (normal : List ℕ) (normalAt : ℕ) (redundant : List ℕ) (redundantAt : ℕ) (state : State) where
+  abbrev named : Taken → List ℕ
+  named taken = bytes normal normalAt redundant redundantAt state taken
+
+  abbrev here : Taken → ℕ
+  here taken = place normal normalAt redundant redundantAt state taken
+
+  pub answers-of-the-table : AnswersOfTheTable normal normalAt redundant redundantAt state
+  answers-of-the-table =
+      by-step normal normalAt redundant redundantAt state (λ (t : Taken). List·Memᴰ (t .answer) answers) (λ a m o. m) (λ link a m l h. m)
+      (λ link a m l p. m) (λ link c. entry answers 9 (omega arith))
+
+  pub down-stays-down : DownStaysDown normal normalAt redundant redundantAt state
+  down-stays-down = (
+    λ e. by-step normal normalAt redundant redundantAt state (λ (t : Taken). t .state .«normal_up» ≡ false) (λ a m o. e)
+        (λ link a m l h. normal-down link state e) (λ link a m l p. e) (λ link c. e),
+    λ e. by-step normal normalAt redundant redundantAt state (λ (t : Taken). t .state .«redundant_up» ≡ false) (λ a m o. e)
+        (λ link a m l h. redundant-down link state e) (λ link a m l p. e) (λ link c. e),
+  )
+
+  pub uses-no-more-than-lent : UsesNoMoreThanLent normal normalAt redundant redundantAt state
+  uses-no-more-than-lent =
+      by-step normal normalAt redundant redundantAt state (λ (t : Taken). here t ≤ length (named t) → here t + t .used ≤ length (named t)) (λ a m o w. omega arith)
+      (λ link a m l h w. omega arith) (λ link a m l p w. p .whole) (λ link c w. c .stands .whole)
+
+  pub faults-put-one-link-down : FaultsPutOneLinkDown normal normalAt redundant redundantAt state
+  faults-put-one-link-down =
+      by-step normal normalAt redundant redundantAt state
+      (λ (t : Taken). 302 ≤ t .answer → t .answer ≤ 304 → (t .used ≡ 0) × (t .state ≡ downOf (t .normal) state))
+      (λ a m o l h. let z : ⊥ = ⊎-elim (λ b. omega arith) (λ b. omega arith) o in absurd z) (λ link a m l′ h′ l h. (refl, refl))
+      (λ link a m b p l h. let z : ⊥ = omega arith in absurd z) (λ link c l h. let z : ⊥ = omega arith in absurd z)
+
+  pub others-hand-up-nothing : OthersHandUpNothing normal normalAt redundant redundantAt state
+  others-hand-up-nothing z = (
+    no-part normal redundant (takenOf normal normalAt redundant redundantAt state) z,
+    by-step normal normalAt redundant redundantAt state
+        (λ (t : Taken). (t .answer ≡ 0 → ⊥) → t ≡ emptyPart (t .answer) (t .normal) (t .used) (t .state)) (λ a m o z. refl) (λ link a m l h z. refl)
+        (λ link a m b p z. refl) (λ link c z. absurd (z refl)) z,
+  )
+
+  pub hands-up-the-packet : HandsUpThePacket normal normalAt redundant redundantAt state
+  hands-up-the-packet =
+      by-step normal normalAt redundant redundantAt state
+      (λ (t : Taken).
+      t .answer ≡ 0
+      → (userDataOf normal redundant t ≡ dataOf (named t) (here t)) × (t ≡ handedUp (t .normal) (here t) (headerOf (named t) (here t)) state)
+      × PacketOn (t .normal) (named t) (here t))
+      (λ a m o z. let f : ⊥ = ⊎-elim (λ b. omega arith) (λ b. omega arith) o in absurd f) (λ link a m l h z. let f : ⊥ = omega arith in absurd f)
+      (λ link a m b p z. let f : ⊥ = omega arith in absurd f)
+      (λ link c z. (data-of-packet normal redundant link (ofLink link normalAt redundantAt) state (c .stands), refl, c .stands))

@@ -1,0 +1,3 @@
+pub mod Taken
+pub mod Table
+pub mod Promises

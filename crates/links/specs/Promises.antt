@@ -1,0 +1,135 @@
+-- What is promised of every step besides its table. Each promise is a type here, and is proved under the same words in proofs/.
+-- Assumes nothing.
+use Prim.Native.Nat.{ℕ, _+_, _≤_}
+use mathlib.Core.Path.{_≡_}
+use mathlib.Core.Bool.{Bool, true, false, not, cond, _&&_}
+use mathlib.Core.List.{List, [], _∷_, _++_, List·Memᴰ}
+use mathlib.Core.Logic.{_⊎_}
+use lib.ListN.{length, take, drop}
+use Rattle.number.specs.Number.{distanceOf}
+use Rattle.field.specs.Row.{Bytes}
+use Rattle.packet.specs.Sizes.{mostLength}
+use Rattle.packet.specs.Packet.{headerOf, dataOf}
+use Rattle.packet.specs.Writing.{writtenOf, bytesWritten}
+use Rattle.packet.specs.RoundTrip.{PacketOn}
+use Rattle.links.specs.declared.State.{State}
+use Rattle.links.specs.declared.Taken.{Taken}
+use Rattle.links.specs.Taken.{downOf, emptyPart, packetSize, handedUp}
+use Rattle.links.specs.Table.{held, takenOf, userDataOf}
+
+-- of the two links, what belongs to the normal one or to the other: its bytes, its place
+abbrev pub ofLink : {A : Type 0} → Bool → A → A → A
+ofLink normal a b = cond normal a b
+
+-- the answers of the table, in its order
+abbrev pub answers : List ℕ
+answers = 308 ∷ 301 ∷ 302 ∷ 303 ∷ 304 ∷ 305 ∷ 309 ∷ 306 ∷ 307 ∷ 0 ∷ []
+
+module _ (normal : List ℕ) (normalAt : ℕ) (redundant : List ℕ) (redundantAt : ℕ) (state : State) where
+  abbrev pub step : Taken
+  step = takenOf normal normalAt redundant redundantAt state
+
+  -- the bytes and the place of the link that an answer names
+  abbrev pub bytes : Taken → List ℕ
+  bytes taken = ofLink (taken .normal) normal redundant
+
+  abbrev pub place : Taken → ℕ
+  place taken = ofLink (taken .normal) normalAt redundantAt
+
+  -- the answer is one of the table's
+  abbrev pub AnswersOfTheTable : Type 0
+  AnswersOfTheTable = List·Memᴰ (step .answer) answers
+
+  -- "a link that is down stays down"
+  abbrev pub DownStaysDown : Type 0
+  DownStaysDown =
+      (state .«normal_up» ≡ false → step .state .«normal_up» ≡ false) × (state .«redundant_up» ≡ false → step .state .«redundant_up» ≡ false)
+
+  -- a step never uses more than is lent: of a place within the bytes, the next one is within them
+  abbrev pub UsesNoMoreThanLent : Type 0
+  UsesNoMoreThanLent = place step ≤ length (bytes step) → place step + step .used ≤ length (bytes step)
+
+  -- "302 to 304 use no bytes", and the link that they name goes down, and no other
+  abbrev pub FaultsPutOneLinkDown : Type 0
+  FaultsPutOneLinkDown = 302 ≤ step .answer → step .answer ≤ 304 → (step .used ≡ 0) × (step .state ≡ downOf (step .normal) state)
+
+  -- "every answer but 0 hands up an empty part", and no field of a packet
+  abbrev pub OthersHandUpNothing : Type 0
+  OthersHandUpNothing =
+      (step .answer ≡ 0 → ⊥)
+      → (userDataOf normal redundant step ≡ []) × (step ≡ emptyPart (step .answer) (step .normal) (step .used) (step .state))
+
+  -- what is handed up is exactly the user data of the packet at that place of that link, with that packet's fields
+  abbrev pub HandsUpThePacket : Type 0
+  HandsUpThePacket =
+      step .answer ≡ 0
+      → (userDataOf normal redundant step ≡ dataOf (bytes step) (place step))
+      × (step ≡ handedUp (step .normal) (place step) (headerOf (bytes step) (place step)) state)
+      × PacketOn (step .normal) (bytes step) (place step)
+
+  -- what is accepted, written for its link from its fields and its user data, is not refused and gives its bytes
+  abbrev pub AcceptedWritesBack : Type 0
+  AcceptedWritesBack =
+      (room : ℕ) → step .answer ≡ 0 → Bytes (bytes step) → step .used ≤ room
+      → (writtenOf room (step .number) (step .kind) (userDataOf normal redundant step) ≡ record { answer = 0; written = step .used })
+      × (bytesWritten room (step .normal) (step .version) (step .application) (step .number) (step .kind) (userDataOf normal redundant step)
+      ≡ take (step .used) (drop (place step) (bytes step)))
+
+  -- the step looks at the normal link, or at the redundant one
+  abbrev pub looksAt : Bool → Bool
+  looksAt true = held (state .«normal_up») normal normalAt
+  looksAt false = not (held (state .«normal_up») normal normalAt) && held (state .«redundant_up») redundant redundantAt
+
+  -- "The loose setting hands up any d from 1 to 32767": of a later packet of type 3 or 4 on the link looked at
+  abbrev pub LooseHandsUp : Type 0
+  LooseHandsUp =
+      (link : Bool)
+      → let header = headerOf (ofLink link normal redundant) (ofLink link normalAt redundantAt) in
+      looksAt link ≡ true → PacketOn link (ofLink link normal redundant) (ofLink link normalAt redundantAt)
+      → (header .kind ≡ 3) ⊎ (header .kind ≡ 4) → state .first ≡ false → state .strict ≡ false
+      → 1 ≤ distanceOf (header .number) (state .last) → distanceOf (header .number) (state .last) ≤ 32767
+      → step ≡ handedUp link (ofLink link normalAt redundantAt) header state
+
+-- the most bytes of a packet, 1,034
+abbrev pub mostBytes : ℕ
+mostBytes = packetSize mostLength
+
+-- what a step sees of a link: so many bytes from the place, or those that are left
+abbrev pub seenFrom : List ℕ → ℕ → List ℕ
+seenFrom s at = take mostBytes (drop at s)
+
+-- what was taken, but for the place of the user data
+abbrev pub placeless : Taken → Taken
+placeless taken = record {
+  answer = taken .answer;
+  normal = taken .normal;
+  used = taken .used;
+  start = 0;
+  size = taken .size;
+  version = taken .version;
+  application = taken .application;
+  kind = taken .kind;
+  number = taken .number;
+  state = taken .state;
+}
+
+-- two steps on two pairs of links take alike: the answer, the link, the bytes used, the fields, the state, and the user data
+pub record Alike (normal redundant : List ℕ) (taken : Taken) (normal′ redundant′ : List ℕ) (taken′ : Taken) : Type 0 where
+  pub same-taken : placeless taken ≡ placeless taken′
+  pub same-data : userDataOf normal redundant taken ≡ userDataOf normal′ redundant′ taken′
+
+-- a step sees no more than a packet: pairs of links that agree in what is seen of them are taken alike
+abbrev pub SeesNoMoreThanAPacket : Type 0
+SeesNoMoreThanAPacket =
+    (normal : List ℕ) (normalAt : ℕ) (redundant : List ℕ) (redundantAt : ℕ)
+    (normal′ : List ℕ) (normalAt′ : ℕ) (redundant′ : List ℕ) (redundantAt′ : ℕ) (state : State)
+    → seenFrom normal normalAt ≡ seenFrom normal′ normalAt′ → seenFrom redundant redundantAt ≡ seenFrom redundant′ redundantAt′
+    → Alike normal redundant (takenOf normal normalAt redundant redundantAt state)
+    normal′ redundant′ (takenOf normal′ normalAt′ redundant′ redundantAt′ state)
+
+-- A buffer that holds, from its place, what a file holds from a place is seen as the file is, if it has the most bytes of a packet from there or all that
+-- is left of the file. So it is enough to refill it when fewer are left in it and the file goes on.
+abbrev pub BufferSeenAsFile : Type 0
+BufferSeenAsFile =
+    (buffer : List ℕ) (at : ℕ) (file : List ℕ) (fileAt : ℕ) (rest : List ℕ) → drop fileAt file ≡ drop at buffer ++ rest
+    → (mostBytes ≤ length (drop at buffer)) ⊎ (rest ≡ []) → seenFrom buffer at ≡ seenFrom file fileAt

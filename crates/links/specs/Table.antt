@@ -1,0 +1,92 @@
+-- 01's table "Taking one packet from two links": its rows in 01's order and words, 308, 301, 302, 303, 304 (`linkRows`), 305, 309, 306, 307, 0
+-- (`classDRows`), each with what follows (specs/Taken).
+-- Assumes nothing.
+use Prim.Native.Nat.{ℕ, _+_}
+use mathlib.Core.Bool.{Bool, true, false, not, cond, _||_, _&&_}
+use mathlib.Core.List.{List, []}
+use lib.Dec.{eqb, ltb, leb}
+use lib.ListN.{length, take, drop}
+use Rattle.rules.specs.Rows.{when_answer_else_}
+use Rattle.number.specs.Number.{distanceOf}
+use Rattle.field.specs.Field.{fieldOf}
+use Rattle.packet.specs.Sizes.{leastLength, mostLength}
+use Rattle.packet.specs.Types.{au1, au2, inClassD, opens, openingFault}
+use Rattle.packet.specs.Packet.{headerOf, checkAt, dataOf, flagOf}
+use Rattle.packet.specs.declared.Header.{Header}
+use Rattle.links.specs.declared.State.{State}
+use Rattle.links.specs.declared.Taken.{Taken}
+use Rattle.links.specs.Taken.{nothingChanges, linkDown, packetSize, dropped, handedUp}
+
+-- the length of the packet at a place, "seen at 2 bytes"
+abbrev pub lengthAt : List ℕ → ℕ → ℕ
+lengthAt s at = fieldOf s at 2
+
+-- "length under 8 or over 1,032"
+unfoldable pub lengthFault : ℕ → Bool
+lengthFault length = ltb length leastLength || ltb mostLength length
+
+-- a link "holds a judgeable length fault or a whole packet"; "a reader's place past the end holds no bytes"
+unfoldable pub holds : List ℕ → ℕ → Bool
+holds s at = leb (at + 2) (length s) && (lengthFault (lengthAt s at) || leb (at + packetSize (lengthAt s at)) (length s))
+
+-- such bytes on a link that is up
+abbrev pub held : Bool → List ℕ → ℕ → Bool
+held up s at = up && holds s at
+
+-- "both links down"
+unfoldable pub bothDown : State → Bool
+bothDown state = not (state .«normal_up») && not (state .«redundant_up»)
+
+-- "first packet: not AU1 (responder) or AU2 (initiator), number not 0, user data under 9 or 4 bytes, or AU1 class not 3"
+unfoldable pub notOpening : Bool → Header → List ℕ → Bool
+notOpening responder header userData =
+    not (eqb (header .kind) (cond responder au1 au2)) || openingFault (header .kind) (header .number) userData
+
+-- "later: type 1 or 2, or d = 0, or d >= 32768"
+unfoldable pub notLater : ℕ → ℕ → Bool
+notLater kind d = opens kind || eqb d 0 || leb 32768 d
+
+-- "strict setting and d >= 2"
+unfoldable pub tooFar : Bool → ℕ → Bool
+tooFar strict d = strict && leb 2 d
+
+-- The rows of either class. `found`: a link that is up has such bytes. The link looked at is the normal one or not, with the bytes s and the place at.
+-- `rest` is what the rows of the packet's class give.
+unfoldable pub linkRows : Bool → Bool → List ℕ → ℕ → State → Taken → Taken
+linkRows found normal s at state rest =
+    when (bothDown state) answer nothingChanges 308 state else
+    when (not found) answer nothingChanges 301 state else
+    when (lengthFault (lengthAt s at)) answer linkDown 302 normal state else
+    when (not (eqb (headerOf s at .check) (checkAt s at))) answer linkDown 303 normal state else
+    when (not (eqb (headerOf s at .flag) (flagOf normal))) answer linkDown 304 normal state else
+    rest
+
+-- The rows of class D, of the packet at a place with its header and its user data. d is of later packets: before the first there is no number last
+-- handed up.
+unfoldable pub classDRows : Bool → ℕ → Header → List ℕ → State → Taken
+classDRows normal at header userData state =
+    when (not (inClassD (header .kind))) answer dropped 305 normal header state else
+    when (state .first && notOpening (state .responder) header userData) answer dropped 309 normal header state else
+    when (not (state .first) && notLater (header .kind) (distanceOf (header .number) (state .last))) answer dropped 306 normal header state else
+    when (not (state .first) && tooFar (state .strict) (distanceOf (header .number) (state .last))) answer dropped 307 normal header state else
+    handedUp normal at header state
+
+-- all rows, of the link looked at
+abbrev pub rowsOf : Bool → Bool → List ℕ → ℕ → State → Taken
+rowsOf found normal s at state = linkRows found normal s at state (classDRows normal at (headerOf s at) (dataOf s at) state)
+
+-- "One step looks at the normal link if it is up and holds a judgeable length fault or a whole packet; otherwise at the redundant one likewise."
+unfoldable pub takenOf : List ℕ → ℕ → List ℕ → ℕ → State → Taken
+takenOf normal normalAt redundant redundantAt state =
+    when (held (state .«normal_up») normal normalAt) answer rowsOf true true normal normalAt state else
+    rowsOf (held (state .«redundant_up») redundant redundantAt) false redundant redundantAt state
+
+-- the part of a slice that starts there and has so many bytes; nothing where it does not lie within
+abbrev pub partOf : List ℕ → ℕ → ℕ → List ℕ
+partOf s start size = when (leb (start + size) (length s)) answer take size (drop start s) else []
+
+-- "What is handed up is the user data, a part of whichever of the two lent buffers held the packet"; "every answer but 0 hands up an empty part"
+unfoldable pub userDataOf : List ℕ → List ℕ → Taken → List ℕ
+userDataOf normal redundant taken =
+    when (eqb (taken .answer) 0) answer partOf (cond (taken .normal) normal redundant) (taken .start) (taken .size) else
+    []

@@ -1,0 +1,58 @@
+-- The register of the check, as loops that count up to m have it: one more bit, one more byte, and none left.
+-- Assumes nothing.
+use mathlib.Core.Path.{_≡_, ap, ap₂, _∙_}
+use Prim.Native.Nat.{ℕ, zero, suc, _+_, _-_, _*_, _/_, _%_, _^_, _≤_, _<_}
+use native.Mathlib.Omega.{arith}
+use mathlib.Core.List.{List, [], _∷_}
+use lib.ListN.{length, take, drop, getD}
+use lib.Bits.{xor-lt}
+use lib.Dec.{lit<}
+use lib.Seq.{drop-cons}
+use Rattle.packet.specs.Check.{polynomial, bitIn, bitsIn, bytesIn, allOnes, checkOf}
+
+one-less : (m k : ℕ) → k < m → m - k ≡ suc (m - (k + 1))
+one-less m k h = omega arith
+
+none-left : (m k : ℕ) → m ≤ k → m - k ≡ 0
+none-left m k h = omega arith
+
+pub bits-more : (m k r b : ℕ) → k < m → bitsIn (m - k) r b ≡ bitsIn (m - (k + 1)) (bitIn r (b % 2)) (b / 2)
+unfolding bitsIn
+bits-more m k r b h = ap (λ (n : ℕ). bitsIn n r b) (one-less m k h)
+
+pub bits-end : (m k r b : ℕ) → m ≤ k → bitsIn (m - k) r b ≡ r
+unfolding bitsIn
+bits-end m k r b h = ap (λ (n : ℕ). bitsIn n r b) (none-left m k h)
+
+-- of the m bytes from `at` on, k are in
+pub bytes-more : (s : List ℕ) (at m k r : ℕ) → k < m → at + m ≤ length s
+    → bytesIn r (take (m - k) (drop (at + k) s)) ≡ bytesIn (bitsIn 8 r (getD s (at + k) 0)) (take (m - (k + 1)) (drop (at + (k + 1)) s))
+unfolding bytesIn
+bytes-more s at m k r h l =
+    ap₂ (λ (n : ℕ) (x : List ℕ). bytesIn r (take n x)) (one-less m k h)
+    (drop-cons s (at + k) 0 (omega arith) ∙ ap (λ (n : ℕ). getD s (at + k) 0 ∷ drop n s) (next at k))
+  where
+    next : (at k : ℕ) → suc (at + k) ≡ at + (k + 1)
+    next at k = omega arith
+
+pub bytes-end : (s : List ℕ) (at m k r : ℕ) → m ≤ k → bytesIn r (take (m - k) (drop (at + k) s)) ≡ r
+unfolding bytesIn
+bytes-end s at m k r h = ap (λ (n : ℕ). bytesIn r (take n (drop (at + k) s))) (none-left m k h)
+
+-- the register keeps to its 16 bits
+bit-fits : (r b : ℕ) → r < 2 ^ 16 → bitIn r b < 2 ^ 16
+unfolding bitIn
+bit-fits r b h = xor-lt 16 (r / 2) (((r + b) % 2) * polynomial) (omega arith) (omega arith)
+
+bits-fit : (n r b : ℕ) → r < 2 ^ 16 → bitsIn n r b < 2 ^ 16
+unfolding bitsIn
+bits-fit zero r b h = h
+bits-fit (suc n) r b h = bits-fit n (bitIn r (b % 2)) (b / 2) (bit-fits r (b % 2) h)
+
+bytes-fit : (r : ℕ) (bs : List ℕ) → r < 2 ^ 16 → bytesIn r bs < 2 ^ 16
+unfolding bytesIn
+bytes-fit r [] h = h
+bytes-fit r (b ∷ bs) h = bytes-fit (bitsIn 8 r b) bs (bits-fit 8 r b h)
+
+pub check-fits : (bs : List ℕ) → checkOf bs < 2 ^ 16
+check-fits bs = bytes-fit allOnes bs (lit< tt)

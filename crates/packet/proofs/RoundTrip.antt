@@ -1,0 +1,154 @@
+-- What is written reads back as the same fields on that link, and what is read there is written back as the same bytes.
+-- Assumes nothing.
+use Prim.Native.Nat.{ℕ, _+_, _-_, _^_, _≤_, _<_}
+use mathlib.Core.Path.{_≡_, refl, sym, ap, ap₂, _∙_}
+use mathlib.Core.Bool.{Bool, true, false}
+use mathlib.Core.List.{List, [], _∷_, _++_, append-assoc}
+use native.Mathlib.Omega.{arith}
+use lib.Dec.{lit<}
+use lib.ListN.{length, take, drop, length-append, length-drop}
+use lib.Seq.{take-at, drop-at, take-add, drop-drop, length-take-le}
+use Rattle.field.specs.Field.{bytesOf}
+use Rattle.field.specs.Row.{fieldsOf, rowOf, FitsRow, Bytes}
+use Rattle.field.proofs.Row.{fields-of-row, row-of-fields}
+use Rattle.packet.specs.Sizes.{headerSize, leastLength, mostData, checkedBytes, checkedFields}
+use Rattle.packet.specs.Check.{checkOf}
+use Rattle.packet.specs.Packet.{widths, named, headerOf, checkAt, dataOf, flagOf, checkedOf, checkFor, packetBytes}
+use Rattle.packet.specs.declared.Header.{Header}
+use Rattle.packet.specs.RoundTrip.{PacketOn, ReadsBack, WrittenReadsBack, ReadWritesBack}
+use Rattle.packet.proofs.Register.{check-fits}
+use Rattle.packet.proofs.Bytes.{checkedRow, checked-length, row-split, row-length}
+use Rattle.packet.proofs.Writing.{short-enough}
+
+flag-fits : (normal : Bool) → flagOf normal < 256 ^ 1
+flag-fits true = lit< tt
+flag-fits false = lit< tt
+
+-- ---- a packet in the midst of a link's bytes
+module _ (normal : Bool) (version application number kind : ℕ) (userData before after : List ℕ)
+    (version-fits : version < 2 ^ 8) (application-fits : application < 2 ^ 8) (number-fits : number < 2 ^ 16) (kind-fits : kind < 2 ^ 8)
+    (short : length userData ≤ mostData) where
+  abbrev counted : ℕ
+  counted = leastLength + length userData
+
+  abbrev fields : List ℕ
+  fields = checkedOf normal version application number kind userData
+
+  abbrev values : List ℕ
+  values = fields ++ (checkFor fields ∷ [])
+
+  abbrev s : List ℕ
+  s = before ++ (packetBytes normal version application number kind userData ++ after)
+
+  abbrev at : ℕ
+  at = length before
+
+  fits : FitsRow widths values
+  fits = (omega arith, (version-fits, (application-fits, (number-fits, (flag-fits normal, (kind-fits, (check-fits (rowOf (take checkedFields widths) fields), tt)))))))
+
+  parts : packetBytes normal version application number kind userData ++ after ≡ rowOf widths values ++ (userData ++ after)
+  parts = append-assoc (rowOf widths values) userData after
+
+  header : headerOf s at ≡ named values
+  header =
+      ap named
+      (ap (λ (l : List ℕ). fieldsOf widths (before ++ l) at) parts ∙ fields-of-row widths values before (userData ++ after) at refl fits)
+
+  from-here : drop at s ≡ rowOf widths values ++ (userData ++ after)
+  from-here = drop-at before (packetBytes normal version application number kind userData ++ after) at refl ∙ parts
+
+  right-check : checkAt s at ≡ checkFor fields
+  right-check =
+      ap (λ (l : List ℕ). checkOf (take checkedBytes l))
+      (from-here ∙ row-split counted version application number (flagOf normal) kind (checkFor fields) (userData ++ after))
+      ∙ ap checkOf
+      (take-at
+      (checkedRow counted version application number (flagOf normal) kind)
+      (bytesOf 2 (checkFor fields) ++ (userData ++ after))
+      checkedBytes
+      (checked-length counted version application number (flagOf normal) kind))
+
+  ten : length (rowOf widths values) ≡ headerSize
+  ten = row-length counted version application number (flagOf normal) kind (checkFor fields)
+
+  past-header : drop (at + headerSize) s ≡ userData ++ after
+  past-header =
+      sym (drop-drop headerSize at s) ∙ ap (drop headerSize) from-here ∙ drop-at (rowOf widths values) (userData ++ after) headerSize ten
+
+  its-length : headerOf s at .length ≡ counted
+  its-length = ap (λ (h : Header). h .length) header
+
+  its-data : dataOf s at ≡ userData
+  its-data =
+      ap₂ (λ (n : ℕ) (l : List ℕ). take n l) (ap (λ (n : ℕ). n - leastLength) its-length ∙ less (length userData)) past-header
+      ∙ take-at userData after (length userData) refl
+    where
+      less : (n : ℕ) → leastLength + n - leastLength ≡ n
+      less n = omega arith
+
+  all-there : at + (headerOf s at .length + 2) ≤ length s
+  all-there =
+      let whole : length s ≡ at + length (packetBytes normal version application number kind userData ++ after) = length-append before (packetBytes normal version application number kind userData ++ after) in
+      let rest : length (packetBytes normal version application number kind userData ++ after) ≡ length (rowOf widths values) + (length userData + length after) = ap length parts ∙ length-append (rowOf widths values) (userData ++ after) ∙ ap (λ (n : ℕ). length (rowOf widths values) + n) (length-append userData after) in
+      omega (arith, ten, its-length)
+
+  reads-back : ReadsBack normal version application number kind userData s at
+  reads-back = record {
+    stands = record {
+      whole = all-there;
+      least = omega (arith, its-length);
+      most = omega (arith, its-length);
+      right = ap (λ (h : Header). h .check) header ∙ sym right-check;
+      flagged = ap (λ (h : Header). h .flag) header;
+    };
+    same-version = ap (λ (h : Header). h .version) header;
+    same-application = ap (λ (h : Header). h .application) header;
+    same-number = ap (λ (h : Header). h .number) header;
+    same-kind = ap (λ (h : Header). h .kind) header;
+    length-of-data = its-length;
+    same-data = its-data;
+  }
+
+pub written-reads-back : WrittenReadsBack
+written-reads-back room normal version application number kind userData before after v a n k z =
+    reads-back normal version application number kind userData before after v a n k (short-enough room number kind userData z)
+
+-- ---- a packet of the link, written back
+module _ (normal : Bool) (s : List ℕ) (at : ℕ) (bytes : Bytes s) (stands : PacketOn normal s at) where
+  abbrev h : Header
+  h = headerOf s at
+
+  abbrev again : List ℕ
+  again = checkedOf normal (h .version) (h .application) (h .number) (h .kind) (dataOf s at)
+
+  data-length : leastLength + length (dataOf s at) ≡ h .length
+  data-length =
+      let left : length (drop (at + headerSize) s) ≡ length s - (at + headerSize) = length-drop (at + headerSize) s in
+      omega (arith, length-take-le (h .length - leastLength) (drop (at + headerSize) s) (omega (arith, stands .whole, stands .least)), stands .least)
+
+  same-fields : again ≡ take checkedFields (fieldsOf widths s at)
+  same-fields =
+      ap₂ (λ (n f : ℕ). n ∷ h .version ∷ h .application ∷ h .number ∷ f ∷ h .kind ∷ []) data-length (sym (stands .flagged))
+
+  same-check : checkFor again ≡ h .check
+  same-check =
+      ap checkFor same-fields
+      ∙ ap checkOf (row-of-fields (take checkedFields widths) s at bytes (omega (arith, stands .whole, stands .least)))
+      ∙ sym (stands .right)
+
+  same-row : rowOf widths (again ++ (checkFor again ∷ [])) ≡ take headerSize (drop at s)
+  same-row =
+      ap₂ (λ (l : List ℕ) (c : ℕ). rowOf widths (l ++ (c ∷ []))) same-fields same-check
+      ∙ row-of-fields widths s at bytes (omega (arith, stands .whole, stands .least))
+
+  writes-back : packetBytes normal (h .version) (h .application) (h .number) (h .kind) (dataOf s at) ≡ take (h .length + 2) (drop at s)
+  writes-back =
+      ap₂ (λ (x y : List ℕ). x ++ y) same-row (ap (take (h .length - leastLength)) (sym (drop-drop headerSize at s)))
+      ∙ sym (take-add headerSize (h .length - leastLength) (drop at s))
+      ∙ ap (λ (n : ℕ). take n (drop at s)) (size (h .length) (stands .least))
+    where
+      size : (n : ℕ) → leastLength ≤ n → headerSize + (n - leastLength) ≡ n + 2
+      size n l = omega arith
+
+pub read-writes-back : ReadWritesBack
+read-writes-back normal s at bytes stands = writes-back normal s at bytes stands

@@ -1,0 +1,36 @@
+-- The check of a packet's header, as 01 words it: "over the first 8 bytes, polynomial x^16+x^12+x^5+1 as in ISO/IEC 3309 (least significant
+-- bit of each byte first, register starts all ones), not inverted at the end, highest term in the field's lowest bit".
+-- Assumes nothing.
+use Prim.Native.Nat.{ℕ, zero, suc, _+_, _-_, _*_, _/_, _%_, _^_}
+use mathlib.Core.List.{List, [], _∷_}
+use lib.Bits.{bitXor}
+
+-- The register holds the terms x^15 .. x^0, "highest term in the lowest bit": x^15 stands in bit 0, x^0 in bit 15.
+abbrev pub term : ℕ → ℕ
+term power = 2 ^ (15 - power)
+
+-- x^16+x^12+x^5+1. Of its powers, x^16 is the term that leaves the register at each step; the other three are these.
+abbrev pub polynomial : ℕ
+polynomial = term 12 + term 5 + term 0
+
+-- One bit goes in: the register moves one place towards the highest term, and where the bit that leaves it and the bit that goes in differ,
+-- the polynomial is taken away, which is exclusive or.
+unfoldable pub bitIn : ℕ → ℕ → ℕ
+bitIn register bit = bitXor (register / 2) (((register + bit) % 2) * polynomial)
+
+-- The lowest n bits of a byte go in, "least significant bit first".
+unfoldable pub bitsIn : ℕ → ℕ → ℕ → ℕ
+bitsIn zero register byte = register
+bitsIn (suc n) register byte = bitsIn n (bitIn register (byte % 2)) (byte / 2)
+
+-- The bytes go in, the first of them first. What the register holds at the end is the check: it is not inverted.
+unfoldable pub bytesIn : ℕ → List ℕ → ℕ
+bytesIn register [] = register
+bytesIn register (byte ∷ bytes) = bytesIn (bitsIn 8 register byte) bytes
+
+-- "register starts all ones"
+abbrev pub allOnes : ℕ
+allOnes = 2 ^ 16 - 1
+
+abbrev pub checkOf : List ℕ → ℕ
+checkOf bytes = bytesIn allOnes bytes
