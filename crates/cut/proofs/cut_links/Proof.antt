@@ -1,0 +1,132 @@
+-- `cut::cut_links` is safe and ends: the windows lie within their buffers, the out buffer's place within it, and the packets handed up and the turns
+-- left are together below 2 ^ 64. The measure is the number of turns that are left. Assumes nothing.
+use Prim.Native.Nat.{_+_, _^_, _≤_, _<_}
+use mathlib.Core.Path.{_≡_, refl, _∙_}
+use native.Mathlib.Omega.{arith}
+use lib.ListN.{length}
+use Rattle.window.proofs.Empty.{none-within}
+use Rattle.recording.specs.Progress.{Lies}
+use Rattle.cut.proofs.cut_links.Statement.{statement}
+use Rattle.cut.proofs.cut_links.Tie as tie
+
+abbrev Inv-loop : tie.InvT-loop
+Inv-loop normal-fd normal-name normal₀ redundant-fd redundant-name redundant₀ out₀ place at₀ p₀ turns₀ normal redundant out at p turns =
+    (length normal ≡ length normal₀) × (length redundant ≡ length redundant₀) × (length out ≡ length out₀)
+    × Lies p (length normal₀) (length redundant₀) × (at ≤ length out₀) × (p .«handed_up» + turns < 2 ^ 64)
+
+abbrev μ-loop : tie.MeasureT-loop
+μ-loop normal-fd normal-name normal₀ redundant-fd redundant-name redundant₀ out₀ place at₀ p₀ turns₀ normal redundant out at p turns =
+    turns
+
+empty-requires : tie.Need-empty-requires Inv-loop μ-loop
+empty-requires c κs = tt
+
+empty-requires-2 : tie.Need-empty-requires-2 Inv-loop μ-loop
+empty-requires-2 c κs = tt
+
+loop-holds : tie.Need-loop-holds Inv-loop μ-loop
+loop-holds c =
+    let start = c .before .before .before .before .before .before .before in (
+      refl,
+      refl,
+      refl,
+      (none-within _ _ (c .before .empty .ensures), none-within _ _ (c .empty2 .ensures)),
+      start .pre .0,
+      omega arith,
+    )
+
+turn-requires : tie.Need-turn-requires Inv-loop μ-loop
+turn-requires c κs =
+    let inv = c .before .before .before .before .loop .inv in
+    let lies = inv .3 in (
+      ((lies .0 .0, omega (arith, lies .0 .1, inv .0)), (lies .1 .0, omega (arith, lies .1 .1, inv .1))),
+      ((omega (arith, inv .4, inv .2), omega (arith, inv .2, c .before .before .before .before .before .before .before .before .before .before .before .before .pre .1)), omega (arith, inv .5)),
+    )
+
+same-length : tie.Need-same-length Inv-loop μ-loop
+same-length c = c .before .before .before .before .before .before .before .turn .kept .1 .1 .0 ∙ c .before .before .before .before .before .before .before .before .before .before .before .before .loop .inv .0
+
+same-length-2 : tie.Need-same-length-2 Inv-loop μ-loop
+same-length-2 c = c .before .before .before .before .before .before .before .turn .kept .1 .1 .1 .1 .1 .0 ∙ c .before .before .before .before .before .before .before .before .before .before .before .before .loop .inv .1
+
+same-length-3 : tie.Need-same-length-3 Inv-loop μ-loop
+same-length-3 c = c .before .before .before .before .before .before .before .turn .kept .1 .1 .1 .1 .1 .1 .0 ∙ c .before .before .before .before .before .before .before .before .before .before .before .before .loop .inv .2
+
+returns : tie.Need-returns Inv-loop μ-loop
+returns c = tt
+
+finish-requires : tie.Need-finish-requires Inv-loop μ-loop
+finish-requires c κs =
+    let turned = c .before .before .before .before .before .before .before .before .before .before .turn in
+    let inv = c .before .before .before .before .before .before .before .before .before .before .before .before .before .before .before .loop .inv in
+    (omega (arith, turned .ensures .1 .0, turned .kept .1 .1 .1 .1 .1 .1 .0), omega (arith, turned .kept .1 .1 .1 .1 .1 .1 .0, inv .2, c .before .before .before .before .before .before .before .before .before .before .before .before .before .before .before .before .before .before .before .before .before .before .before .pre .1))
+
+same-length-4 : tie.Need-same-length-4 Inv-loop μ-loop
+same-length-4 c = c .before .before .before .before .before .before .before .before .before .before .before .before .before .turn .kept .1 .1 .0 ∙ c .before .before .before .before .before .before .before .before .before .before .before .before .before .before .before .before .before .before .loop .inv .0
+
+same-length-5 : tie.Need-same-length-5 Inv-loop μ-loop
+same-length-5 c = c .before .before .before .before .before .before .before .before .before .before .before .before .before .turn .kept .1 .1 .1 .1 .1 .0 ∙ c .before .before .before .before .before .before .before .before .before .before .before .before .before .before .before .before .before .before .loop .inv .1
+
+same-length-6 : tie.Need-same-length-6 Inv-loop μ-loop
+same-length-6 c = c .before .before .finish .kept .0 ∙ c .before .before .before .before .before .before .before .before .before .before .before .before .before .turn .kept .1 .1 .1 .1 .1 .1 .0 ∙ c .before .before .before .before .before .before .before .before .before .before .before .before .before .before .before .before .before .before .loop .inv .2
+
+returns-2 : tie.Need-returns-2 Inv-loop μ-loop
+returns-2 c = tt
+
+sub-turns : tie.Need-sub-turns Inv-loop μ-loop
+sub-turns c = omega arith
+
+loop-less : tie.Need-loop-less Inv-loop μ-loop
+loop-less c = omega arith
+
+loop-again : tie.Need-loop-again Inv-loop μ-loop
+loop-again c =
+    let turned = c .before .before .before .before .before .before .before .before .before .turn in
+    let inv = c .before .before .before .before .before .before .before .before .before .before .before .before .before .before .loop .inv in
+    let lies = turned .ensures .0 in (
+      turned .kept .1 .1 .0 ∙ inv .0,
+      turned .kept .1 .1 .1 .1 .1 .0 ∙ inv .1,
+      turned .kept .1 .1 .1 .1 .1 .1 .0 ∙ inv .2,
+      ((lies .0 .0, omega (arith, lies .0 .1, inv .0)), (lies .1 .0, omega (arith, lies .1 .1, inv .1))),
+      omega (arith, turned .ensures .1 .0, inv .2),
+      omega (arith, turned .ensures .1 .1, inv .5),
+    )
+
+same-length-7 : tie.Need-same-length-7 Inv-loop μ-loop
+same-length-7 c = c .before .loop .inv .0
+
+same-length-8 : tie.Need-same-length-8 Inv-loop μ-loop
+same-length-8 c = c .before .loop .inv .1
+
+same-length-9 : tie.Need-same-length-9 Inv-loop μ-loop
+same-length-9 c = c .before .loop .inv .2
+
+returns-3 : tie.Need-returns-3 Inv-loop μ-loop
+returns-3 c = tt
+
+pub cut-links-spec : {M : Type 1} → statement M
+cut-links-spec =
+    tie.close
+    (tie.spec
+    Inv-loop
+    μ-loop
+    empty-requires
+    empty-requires-2
+    loop-holds
+    turn-requires
+    same-length
+    same-length-2
+    same-length-3
+    returns
+    finish-requires
+    same-length-4
+    same-length-5
+    same-length-6
+    returns-2
+    sub-turns
+    loop-less
+    loop-again
+    same-length-7
+    same-length-8
+    same-length-9
+    returns-3)

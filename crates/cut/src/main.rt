@@ -1,0 +1,353 @@
+// cut initiator|responder strict|loose NORMAL REDUNDANT: takes packets from the recorded bytes of two links and prints a line for each step.
+ghost use mathlib.Core.Path.{_≡_};
+ghost use Prim.Native.Nat.{_+_, _^_, _≤_, _<_};
+ghost use lib.ListN.{length};
+ghost use Rattle.window.specs.Window.{Within};
+ghost use Rattle.recording.specs.Printed.{mostLine};
+ghost use Rattle.recording.specs.Progress.{Lies};
+use libc::STDERR_FILENO;
+use links::State;
+use recording::Progress;
+use text::Chosen;
+use window::Refilled;
+use window::Window;
+
+// The most bytes of a packet, which are the most that one step looks at: a window with fewer is refilled.
+const MOST_PACKET: usize = 1034;
+
+// A place in the out buffer with room for a line, and whether writing what it held failed.
+struct Place {
+    at: usize,
+    failed: bool,
+}
+
+// The windows after they are refilled, and whether a file could not be read.
+struct Windows {
+    normal: Window,
+    redundant: Window,
+    failed: bool,
+}
+
+// How far the cutting is after a turn, the place in the out buffer, and whether the turn failed.
+struct Turned {
+    progress: Progress,
+    at: usize,
+    failed: bool,
+}
+
+// Refills a window that is low, or says why its file can't be read.
+fn topped_up(fd: i32, name: &[u8], buffer: &mut [u8], window: Window) -> Refilled
+    requires { ⌜ Within window (length (now buffer)) ⌝ }
+    ensures { λ r. ⌜ Within (r .window) (length (now (buffer .entry))) ⌝ }
+{
+    if !window.low(MOST_PACKET) {
+        return Refilled {
+            window,
+            failed: false,
+        };
+    }
+    let refilled = window::refill(fd, buffer, window);
+    if refilled.failed {
+        os::fail(name);
+    }
+    refilled
+}
+
+// Tops both windows up.
+fn both_topped_up(
+    normal_fd: i32,
+    normal_name: &[u8],
+    normal: &mut [u8],
+    redundant_fd: i32,
+    redundant_name: &[u8],
+    redundant: &mut [u8],
+    p: Progress,
+) -> Windows
+    requires { ⌜ Lies p (length (now normal)) (length (now redundant)) ⌝ }
+    ensures { λ r. ⌜ Within (r .normal) (length (now (normal .entry))) × Within (r .redundant) (length (now (redundant .entry))) ⌝ }
+{
+    let first = topped_up(normal_fd, normal_name, normal, p.normal);
+    let second = topped_up(redundant_fd, redundant_name, redundant, p.redundant);
+    Windows {
+        normal: first.window,
+        redundant: second.window,
+        failed: first.failed || second.failed,
+    }
+}
+
+// Writes what the out buffer holds, or says why it can't.
+fn written(out: &[u8], at: usize) -> bool
+    requires { ⌜ at ≤ length (now out) ⌝ }
+{
+    let whole = text::print(out, at);
+    if !whole {
+        os::fail(b"standard output");
+    }
+    whole
+}
+
+// Makes room for a line.
+fn room(out: &[u8], at: usize) -> Place
+    requires { ⌜ (at ≤ length (now out)) × (mostLine ≤ length (now out)) ⌝ }
+    ensures { λ r. ⌜ r .at + mostLine ≤ length (now (out .entry)) ⌝ }
+{
+    if recording::MOST_LINE <= out.len() - at {
+        return Place { at, failed: false };
+    }
+    let whole = written(out, at);
+    Place {
+        at: 0,
+        failed: !whole,
+    }
+}
+
+// Puts the last line and writes what the out buffer holds.
+fn finish(out: &mut [u8], at: usize, count: u64)
+    requires { ⌜ (at ≤ length (now out)) × (mostLine ≤ length (now out)) ⌝ }
+{
+    let place = room(out, at);
+    if place.failed {
+        return;
+    }
+    let end = recording::put_end(out, place.at, count);
+    written(out, end);
+}
+
+// One turn: room for a line, the windows topped up, and a step with its line.
+fn turn(
+    normal_fd: i32,
+    normal_name: &[u8],
+    normal: &mut [u8],
+    redundant_fd: i32,
+    redundant_name: &[u8],
+    redundant: &mut [u8],
+    out: &mut [u8],
+    at: usize,
+    p: Progress,
+) -> Turned
+    requires { ⌜ Lies p (length (now normal)) (length (now redundant)) ⌝ }
+    requires { ⌜ (at ≤ length (now out)) × (mostLine ≤ length (now out)) ⌝ }
+    requires { ⌜ p .«handed_up» + 1 < 2 ^ 64 ⌝ }
+    ensures { λ r. ⌜ Lies (r .progress) (length (now (normal .entry))) (length (now (redundant .entry))) ⌝ }
+    ensures { λ r. ⌜ (r .at ≤ length (now (out .entry))) × (r .progress .«handed_up» ≤ p .«handed_up» + 1) ⌝ }
+{
+    let place = room(out, at);
+    let windows = both_topped_up(
+        normal_fd,
+        normal_name,
+        normal,
+        redundant_fd,
+        redundant_name,
+        redundant,
+        p,
+    );
+    let first = windows.normal;
+    let second = windows.redundant;
+    let state = p.state;
+    let lent = Progress {
+        normal: first,
+        redundant: second,
+        state,
+        handed_up: p.handed_up,
+        last: p.last,
+    };
+    if place.failed || windows.failed {
+        return Turned {
+            progress: lent,
+            at: place.at,
+            failed: true,
+        };
+    }
+    let advanced = recording::advance(normal, redundant, out, place.at, lent);
+    let progress = advanced.progress;
+    Turned {
+        progress,
+        at: advanced.next,
+        failed: false,
+    }
+}
+
+// Turns until a step answers 301 or 308, then the last line. A proved loop has to end, and nothing says that a file does, so the loop counts its
+// turns down, from a number that no run uses up.
+fn cut_links(
+    normal_fd: i32,
+    normal_name: &[u8],
+    normal: &mut [u8],
+    redundant_fd: i32,
+    redundant_name: &[u8],
+    redundant: &mut [u8],
+    out: &mut [u8],
+    place: usize,
+    state: State,
+)
+    requires { ⌜ (place ≤ length (now out)) × (mostLine ≤ length (now out)) ⌝ }
+{
+    let mut at = place;
+    let mut p = Progress {
+        normal: Window::empty(),
+        redundant: Window::empty(),
+        state,
+        handed_up: 0,
+        last: false,
+    };
+    let mut turns: u64 = 0xFFFF_FFFF_FFFF_FFFE;
+    while turns > 0 {
+        let turned = turn(
+            normal_fd,
+            normal_name,
+            normal,
+            redundant_fd,
+            redundant_name,
+            redundant,
+            out,
+            at,
+            p,
+        );
+        if turned.failed {
+            return;
+        }
+        p = turned.progress;
+        at = turned.at;
+        if p.last {
+            finish(out, at, p.handed_up);
+            return;
+        }
+        turns -= 1;
+    }
+}
+
+// The heading, then the turns.
+fn print_all(
+    normal_fd: i32,
+    normal_name: &[u8],
+    normal: &mut [u8],
+    redundant_fd: i32,
+    redundant_name: &[u8],
+    redundant: &mut [u8],
+    out: &mut [u8],
+    state: State,
+)
+    requires { ⌜ mostLine ≤ length (now out) ⌝ }
+{
+    let at = recording::put_heading(out, 0);
+    cut_links(
+        normal_fd,
+        normal_name,
+        normal,
+        redundant_fd,
+        redundant_name,
+        redundant,
+        out,
+        at,
+        state,
+    );
+}
+
+// The buffers of two open files.
+fn cut_files(
+    normal_fd: i32,
+    normal_name: &[u8],
+    redundant_fd: i32,
+    redundant_name: &[u8],
+    state: State,
+) {
+    let mut normal = io::large_buffer();
+    let mut redundant = io::large_buffer();
+    let mut out = io::large_buffer();
+    print_all(
+        normal_fd,
+        normal_name,
+        &mut normal,
+        redundant_fd,
+        redundant_name,
+        &mut redundant,
+        &mut out,
+        state,
+    );
+}
+
+// Says why a file can't be read: by its name, or where the name is missing or too long by the word that stands for it.
+fn fail(name: &[u8], word: &[u8]) {
+    if name.len() == 0 {
+        os::fail(word);
+        return;
+    }
+    os::fail(name);
+}
+
+// Opens the file that an argument names, just after the argument was read; or says why it can't, and answers a number below 0.
+fn opened(name: &[u8], word: &[u8]) -> i32 {
+    if os::errno() != 0 {
+        fail(name, word);
+        return -1;
+    }
+    let fd = os::open_read(name);
+    if fd < 0 {
+        fail(name, word);
+    }
+    fd
+}
+
+// Opens both files and cuts them.
+fn cut_named(state: State) {
+    let mut normal_name = io::buffer();
+    let normal_size = os::arg(3, &mut normal_name);
+    let normal_fd = opened(&normal_name[..normal_size], b"NORMAL");
+    if normal_fd < 0 {
+        return;
+    }
+    let mut redundant_name = io::buffer();
+    let redundant_size = os::arg(4, &mut redundant_name);
+    let redundant_fd = opened(&redundant_name[..redundant_size], b"REDUNDANT");
+    if redundant_fd < 0 {
+        return;
+    }
+    cut_files(
+        normal_fd,
+        &normal_name[..normal_size],
+        redundant_fd,
+        &redundant_name[..redundant_size],
+        state,
+    );
+    libc::close(normal_fd);
+    libc::close(redundant_fd);
+}
+
+// Which of two words an argument is. A longer one is neither.
+fn chosen(i: usize, first: &[u8], second: &[u8]) -> Chosen {
+    let mut word = [0u8; 16];
+    let size = os::arg(i, &mut word);
+    text::choose(&word[..size], first, second)
+}
+
+// One line that says what the arguments are.
+fn usage() {
+    io::write_all(
+        STDERR_FILENO,
+        b"cut: the arguments are initiator|responder strict|loose NORMAL REDUNDANT\n",
+    );
+}
+
+fn main() {
+    if os::arg_count() != 5 {
+        usage();
+        return;
+    }
+    let responder = match chosen(1, b"responder", b"initiator") {
+        Chosen::First => true,
+        Chosen::Second => false,
+        Chosen::Neither => {
+            usage();
+            return;
+        }
+    };
+    let strict = match chosen(2, b"strict", b"loose") {
+        Chosen::First => true,
+        Chosen::Second => false,
+        Chosen::Neither => {
+            usage();
+            return;
+        }
+    };
+    cut_named(State::fresh(responder, strict));
+}

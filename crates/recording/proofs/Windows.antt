@@ -1,0 +1,58 @@
+-- A step over two windows uses no more than they have, so they lie within their buffers after it too.
+-- Assumes nothing.
+use Prim.Native.Nat.{ℕ, _+_, _≤_}
+use mathlib.Core.Path.{_≡_, refl, sym, subst}
+use mathlib.Core.Bool.{Bool, true, false, cond, false≢true}
+use mathlib.Core.List.{List}
+use native.Mathlib.Omega.{arith}
+use lib.Dec.{eqb}
+use lib.ListN.{length, take}
+use lib.Seq.{length-take-le}
+use Rattle.window.specs.Window.{Within, usedOf}
+use Rattle.window.specs.declared.Window.{Window}
+use Rattle.links.specs.declared.Taken.{Taken}
+use Rattle.links.proofs.Promises.{uses-no-more-than-lent}
+use Rattle.recording.specs.Progress.{takenAt, countedOf, steppedOf, UsesNoMore, Lies}
+use Rattle.recording.specs.declared.Progress.{Progress}
+
+-- what is within the link that is named, said of each link
+by-link : (normal : Bool) (n r used : ℕ) (ns rs : List ℕ) → cond normal n r + used ≤ length (cond normal ns rs)
+    → (normal ≡ true → n + used ≤ length ns) × (normal ≡ false → r + used ≤ length rs)
+by-link true n r used ns rs h = (λ e. h, λ e. absurd (false≢true (sym e)))
+by-link false n r used ns rs h = (λ e. absurd (false≢true e), λ e. h)
+
+place-within : (normal : Bool) (n r : ℕ) (ns rs : List ℕ) → n ≤ length ns → r ≤ length rs → cond normal n r ≤ length (cond normal ns rs)
+place-within true n r ns rs h g = h
+place-within false n r ns rs h g = g
+
+pub uses : (normal redundant : List ℕ) (p : Progress) {taken : Taken} → Lies p (length normal) (length redundant) → taken ≡ takenAt normal redundant p
+    → UsesNoMore taken p
+uses normal redundant p l e =
+    let t = takenAt normal redundant p in
+    let ns = take (p .normal .to) normal in
+    let rs = take (p .redundant .to) redundant in
+    let nl = length-take-le (p .normal .to) normal (l .0 .1) in
+    let rl = length-take-le (p .redundant .to) redundant (l .1 .1) in
+    let within = place-within (t .normal) (p .normal .from) (p .redundant .from) ns rs (omega (arith, l .0 .0)) (omega (arith, l .1 .0)) in
+    let lent = uses-no-more-than-lent ns (p .normal .from) rs (p .redundant .from) (p .state) within in
+    let each = by-link (t .normal) (p .normal .from) (p .redundant .from) (t .used) ns rs lent in
+    subst (λ (t : Taken). UsesNoMore t p) (sym e) (λ n. omega (arith, each .0 n), λ r. omega (arith, each .1 r))
+
+-- the windows after some bytes of the link that is named are used
+within-after : (normal : Bool) (used : ℕ) (n r : Window) (ns rs : ℕ)
+    → (normal ≡ true → n .from + used ≤ n .to) × (normal ≡ false → r .from + used ≤ r .to) → Within n ns → Within r rs
+    → Within (cond normal (usedOf used n) n) ns × Within (cond normal r (usedOf used r)) rs
+within-after true used n r ns rs u wn wr = ((u .0 refl, wn .1), wr)
+within-after false used n r ns rs u wn wr = (wn, (u .1 refl, wr .1))
+
+-- at most one packet more is counted
+counts-one : (handedUp : ℕ) (handed : Bool) → cond handed (handedUp + 1) handedUp ≤ handedUp + 1
+counts-one handedUp true = omega arith
+counts-one handedUp false = omega arith
+
+pub lies-after : (ns rs : ℕ) (p after : Progress) (taken : Taken) → UsesNoMore taken p → Lies p ns rs → after ≡ steppedOf taken p
+    → Lies after ns rs × (after .«handed_up» ≤ p .«handed_up» + 1)
+unfolding steppedOf countedOf
+lies-after ns rs p after taken u l e =
+    subst (λ (q : Progress). Lies q ns rs × (q .«handed_up» ≤ p .«handed_up» + 1)) (sym e)
+    (within-after (taken .normal) (taken .used) (p .normal) (p .redundant) ns rs u (l .0) (l .1), counts-one (p .«handed_up») (eqb (taken .answer) 0))

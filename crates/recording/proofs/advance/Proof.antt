@@ -1,0 +1,49 @@
+-- `recording::advance` meets its contract: a step, its line, and the progress after it. Assumes nothing.
+use Prim.Native.Nat.{ℕ}
+use mathlib.Core.Path.{_∙_, ap, subst}
+use lib.ListN.{length}
+use Rattle.text.specs.Text.{PutAt}
+use Rattle.links.specs.declared.Taken.{Taken}
+use Rattle.recording.specs.Printed.{lineOf}
+use Rattle.recording.specs.Progress.{steppedOf}
+use Rattle.recording.proofs.Windows.{uses, lies-after}
+use borrow.Author.Needs.{needs}
+use Rattle.recording.proofs.advance.Statement.{statement}
+use Rattle.recording.proofs.advance.Tie as tie
+
+take-requires : tie.Need-take-requires
+take-requires c κs = search needs
+
+put-line-requires : tie.Need-put-line-requires
+put-line-requires c κs = search needs
+
+stepped-requires : tie.Need-stepped-requires
+stepped-requires c κs =
+    let taken = c .before .before .before .before .take in
+    let start = c .before .before .before .before .before .before .before .before in
+    let a = start .args in
+    (uses (a .normal .now) (a .redundant .now) (a .p) (start .pre .0) (taken .ensures), start .pre .1 .1)
+
+same-length : tie.Need-same-length
+same-length c = search needs
+
+returns : tie.Need-returns
+returns c =
+    let taken = c .before .before .before .before .before .take in
+    let line = c .before .before .before .put-line in
+    let start = c .before .before .before .before .before .before .before .before .before in
+    let a = start .args in
+    let ns = length (a .normal .now) in
+    let rs = length (a .redundant .now) in
+    let used = uses (a .normal .now) (a .redundant .now) (a .p) (start .pre .0) (taken .ensures) in
+    let lies = lies-after ns rs (a .p) (c .stepped .result) (taken .result) used (start .pre .0) (c .stepped .ensures) in (
+      c .stepped .ensures ∙ ap (λ (t : Taken). steppedOf t (a .p)) (taken .ensures),
+      (
+        subst (λ (t : Taken). PutAt (a .out .now) (a .at) (lineOf t) (line .last .0) (line .result)) (taken .ensures) (line .ensures .0),
+        (lies .0, lies .1, line .ensures .1),
+      ),
+    )
+
+pub advance-spec : {M : Type 1} → statement M
+advance-spec =
+    tie.close (tie.spec take-requires put-line-requires stepped-requires same-length returns)

@@ -1,0 +1,46 @@
+-- How far two recorded links are cut: a step over their windows, with what it uses up, counts and prints.
+-- Assumes nothing.
+use Prim.Native.Nat.{ℕ, _+_, _≤_, _<_}
+use mathlib.Core.Path.{_≡_}
+use mathlib.Core.Bool.{Bool, true, false, cond, _||_}
+use mathlib.Core.List.{List}
+use lib.Dec.{eqb}
+use lib.ListN.{length, take, drop}
+use Rattle.window.specs.Window.{emptyWindow, Within, usedOf}
+use Rattle.window.specs.declared.Window.{Window}
+use Rattle.links.specs.Table.{takenOf}
+use Rattle.links.specs.declared.State.{State}
+use Rattle.links.specs.declared.Taken.{Taken}
+use Rattle.recording.specs.declared.Progress.{Progress}
+
+-- what one step takes of the two windows
+abbrev pub takenAt : List ℕ → List ℕ → Progress → Taken
+takenAt normal redundant p =
+    takenOf (take (p .normal .to) normal) (p .normal .from) (take (p .redundant .to) redundant) (p .redundant .from) (p .state)
+
+-- "takes packets until a step answers 301 or 308"
+unfoldable pub lastAnswer : ℕ → Bool
+lastAnswer answer = eqb answer 301 || eqb answer 308
+
+-- the count of packets handed up, after a step
+unfoldable pub countedOf : ℕ → ℕ → ℕ
+countedOf handedUp answer = cond (eqb answer 0) (handedUp + 1) handedUp
+
+-- the progress after that step: the bytes used of the link it names, its state, and one packet more where one is handed up
+unfoldable pub steppedOf : Taken → Progress → Progress
+steppedOf taken p = record {
+  normal = cond (taken .normal) (usedOf (taken .used) (p .normal)) (p .normal);
+  redundant = cond (taken .normal) (p .redundant) (usedOf (taken .used) (p .redundant));
+  state = taken .state;
+  «handed_up» = countedOf (p .«handed_up») (taken .answer);
+  last = lastAnswer (taken .answer);
+}
+
+-- a step uses no more of the link it names than its window has
+abbrev pub UsesNoMore : Taken → Progress → Type 0
+UsesNoMore taken p =
+    (taken .normal ≡ true → p .normal .from + taken .used ≤ p .normal .to) × (taken .normal ≡ false → p .redundant .from + taken .used ≤ p .redundant .to)
+
+-- the windows lie within their buffers
+abbrev pub Lies : Progress → ℕ → ℕ → Type 0
+Lies p normal redundant = Within (p .normal) normal × Within (p .redundant) redundant

@@ -1,0 +1,186 @@
+// Recorded links cut into packets: one step over the windows of two links, and the text that is printed for it.
+ghost use mathlib.Core.Path.{_≡_};
+ghost use mathlib.Core.Bool.{true, false};
+ghost use Prim.Native.Nat.{_+_, _^_, _≤_, _<_};
+ghost use lib.ListN.{length};
+ghost use Rattle.text.specs.Text.{PutAt, mostDigits};
+ghost use Rattle.recording.specs.Printed.{heading, linkName, numberText, handedUpText, lineOf, endOf, mostLine};
+ghost use Rattle.recording.specs.Progress.{takenAt, lastAnswer, countedOf, steppedOf, UsesNoMore, Lies};
+use links::State;
+use links::Taken;
+use window::Window;
+
+// The most bytes of a line.
+pub const MOST_LINE: usize = 115;
+
+// The windows of the two links, the state of the steps, how many packets were handed up, and whether the last step answered 301 or 308.
+pub struct Progress {
+    pub normal: Window,
+    pub redundant: Window,
+    pub state: State,
+    pub handed_up: u64,
+    pub last: bool,
+}
+
+// The progress after a step, and the place after the line that was put for it.
+pub struct Advanced {
+    pub progress: Progress,
+    pub next: usize,
+}
+
+// The heading.
+pub fn put_heading(out: &mut [u8], at: usize) -> usize
+    requires { ⌜ at + mostLine ≤ length (now out) ⌝ }
+    ensures { λ r. ⌜ PutAt (now (out .entry)) at heading (now (out .exit)) r ⌝ }
+{
+    text::put(out, at, b"link answer used type number data\n")
+}
+
+// The name of a link.
+fn put_link(out: &mut [u8], at: usize, normal: bool) -> usize
+    requires { ⌜ at + 9 ≤ length (now out) ⌝ }
+    ensures { λ r. ⌜ PutAt (now (out .entry)) at (linkName normal) (now (out .exit)) r ⌝ }
+    ensures { λ r. ⌜ r ≤ at + 9 ⌝ }
+{
+    if normal {
+        return text::put(out, at, b"normal");
+    }
+    text::put(out, at, b"redundant")
+}
+
+// A number after a space.
+pub fn put_number(out: &mut [u8], at: usize, n: u64) -> usize
+    requires { ⌜ at + 1 + mostDigits ≤ length (now out) ⌝ }
+    ensures { λ r. ⌜ PutAt (now (out .entry)) at (numberText n) (now (out .exit)) r ⌝ }
+    ensures { λ r. ⌜ r ≤ at + 1 + mostDigits ⌝ }
+{
+    let next = text::put(out, at, b" ");
+    text::put_decimal(out, next, n)
+}
+
+// The type, the number and the count of user data bytes, and the end of the line.
+fn put_handed_up(out: &mut [u8], at: usize, kind: u8, number: u16, size: usize) -> usize
+    requires { ⌜ at + 64 ≤ length (now out) ⌝ }
+    ensures { λ r. ⌜ PutAt (now (out .entry)) at (handedUpText kind number size) (now (out .exit)) r ⌝ }
+    ensures { λ r. ⌜ r ≤ at + 64 ⌝ }
+{
+    let after_kind = put_number(out, at, kind as u64);
+    let after_number = put_number(out, after_kind, number as u64);
+    let after_size = put_number(out, after_number, size as u64);
+    text::put(out, after_size, b"\n")
+}
+
+// The line of a step.
+pub fn put_line(out: &mut [u8], at: usize, taken: Taken) -> usize
+    requires { ⌜ at + mostLine ≤ length (now out) ⌝ }
+    ensures { λ r. ⌜ PutAt (now (out .entry)) at (lineOf taken) (now (out .exit)) r ⌝ }
+    ensures { λ r. ⌜ r ≤ at + mostLine ⌝ }
+{
+    let after_link = put_link(out, at, taken.normal);
+    let after_answer = put_number(out, after_link, taken.answer as u64);
+    let after_used = put_number(out, after_answer, taken.used as u64);
+    put_handed_up(out, after_used, taken.kind, taken.number, taken.size)
+}
+
+// The last line.
+pub fn put_end(out: &mut [u8], at: usize, count: u64) -> usize
+    requires { ⌜ at + mostLine ≤ length (now out) ⌝ }
+    ensures { λ r. ⌜ PutAt (now (out .entry)) at (endOf count) (now (out .exit)) r ⌝ }
+    ensures { λ r. ⌜ r ≤ at + mostLine ⌝ }
+{
+    let after_end = text::put(out, at, b"end");
+    let after_count = put_number(out, after_end, count);
+    text::put(out, after_count, b"\n")
+}
+
+// One step over the two windows.
+fn take<'a>(normal: &'a [u8], redundant: &'a [u8], p: Progress) -> Taken
+    requires { ⌜ Lies p (length (now normal)) (length (now redundant)) ⌝ }
+    ensures { λ r. ⌜ r ≡ takenAt (now (normal .entry)) (now (redundant .entry)) p ⌝ }
+{
+    let normal_from = p.normal.from;
+    let normal_to = p.normal.to;
+    let redundant_from = p.redundant.from;
+    let redundant_to = p.redundant.to;
+    links::take(
+        &normal[..normal_to],
+        normal_from,
+        &redundant[..redundant_to],
+        redundant_from,
+        p.state,
+    )
+}
+
+// Whether a step was the last.
+fn last_answer(answer: u16) -> bool
+    ensures { λ r. ⌜ r ≡ lastAnswer answer ⌝ }
+{
+    if answer == 301 {
+        return true;
+    }
+    answer == 308
+}
+
+// The count of packets handed up, after a step.
+fn counted(handed_up: u64, answer: u16) -> u64
+    requires { ⌜ «handed_up» + 1 < 2 ^ 64 ⌝ }
+    ensures { λ r. ⌜ r ≡ countedOf «handed_up» answer ⌝ }
+    ensures { λ r. ⌜ r ≤ «handed_up» + 1 ⌝ }
+{
+    if answer == 0 {
+        return handed_up + 1;
+    }
+    handed_up
+}
+
+// The progress after a step.
+fn stepped(p: Progress, taken: Taken) -> Progress
+    requires { ⌜ UsesNoMore taken p ⌝ }
+    requires { ⌜ p .«handed_up» + 1 < 2 ^ 64 ⌝ }
+    ensures { λ r. ⌜ r ≡ steppedOf taken p ⌝ }
+{
+    let state = taken.state;
+    let handed_up = counted(p.handed_up, taken.answer);
+    let last = last_answer(taken.answer);
+    let normal = p.normal;
+    let redundant = p.redundant;
+    if taken.normal {
+        return Progress {
+            normal: normal.used(taken.used),
+            redundant,
+            state,
+            handed_up,
+            last,
+        };
+    }
+    Progress {
+        normal,
+        redundant: redundant.used(taken.used),
+        state,
+        handed_up,
+        last,
+    }
+}
+
+// One step, with its line put into the out buffer.
+pub fn advance<'a>(
+    normal: &'a [u8],
+    redundant: &'a [u8],
+    out: &mut [u8],
+    at: usize,
+    p: Progress,
+) -> Advanced
+    requires { ⌜ Lies p (length (now normal)) (length (now redundant)) ⌝ }
+    requires { ⌜ at + mostLine ≤ length (now out) ⌝ }
+    requires { ⌜ p .«handed_up» + 1 < 2 ^ 64 ⌝ }
+    ensures { λ r. ⌜ r .progress ≡ steppedOf (takenAt (now (normal .entry)) (now (redundant .entry)) p) p ⌝ }
+    ensures { λ r. ⌜ PutAt (now (out .entry)) at (lineOf (takenAt (now (normal .entry)) (now (redundant .entry)) p)) (now (out .exit)) (r .next) ⌝ }
+    ensures { λ r. ⌜ Lies (r .progress) (length (now (normal .entry))) (length (now (redundant .entry))) × (r .progress .«handed_up» ≤ p .«handed_up» + 1) × (r .next ≤ at + mostLine) ⌝ }
+{
+    let taken = take(normal, redundant, p);
+    let next = put_line(out, at, taken);
+    Advanced {
+        progress: stepped(p, taken),
+        next,
+    }
+}

@@ -1,0 +1,144 @@
+// A window on a file: a bounded buffer that is refilled, so that a file of any length is taken a part at a time.
+ghost use mathlib.Core.Path.{_≡_};
+ghost use mathlib.Core.Bool.{true, false};
+ghost use Prim.Native.Nat.{_+_, _-_, _≤_};
+ghost use lib.ListN.{length, take, drop};
+ghost use lib.Seq.{sets};
+ghost use Rattle.window.specs.Window.{emptyWindow, Within, leftOf, unread, lowOf, usedOf, FilledFrom, RefilledFrom};
+
+// The bytes of the buffer from `from` to `to` are read and not used up; `ended` says that the file has no more.
+pub struct Window {
+    pub from: usize,
+    pub to: usize,
+    pub ended: bool,
+}
+
+// A window after a refill, and whether a read failed.
+pub struct Refilled {
+    pub window: Window,
+    pub failed: bool,
+}
+
+// What one read gives: how many bytes came, none at the end of the file, and whether it failed.
+struct Came {
+    count: usize,
+    failed: bool,
+}
+
+// What reading to the end of a buffer gives: how far it is filled, whether the file has ended, whether a read failed.
+struct Filled {
+    to: usize,
+    ended: bool,
+    failed: bool,
+}
+
+impl Window {
+    pub fn empty() -> Window
+        ensures { λ r. ⌜ r ≡ emptyWindow ⌝ }
+    {
+        Window {
+            from: 0,
+            to: 0,
+            ended: false,
+        }
+    }
+
+    // Whether it is to be refilled, for steps that look at `most` bytes at the most.
+    pub fn low(self, most: usize) -> bool
+        requires { ⌜ self .from ≤ self .to ⌝ }
+        ensures { λ r. ⌜ r ≡ lowOf most self ⌝ }
+    {
+        if self.to - self.from < most {
+            return !self.ended;
+        }
+        false
+    }
+
+    // So many of its bytes are used up.
+    pub fn used(self, count: usize) -> Window
+        requires { ⌜ self .from + count ≤ self .to ⌝ }
+        ensures { λ r. ⌜ r ≡ usedOf count self ⌝ }
+        ensures { λ r. ⌜ Within r (self .to) ⌝ }
+    {
+        Window {
+            from: self.from + count,
+            to: self.to,
+            ended: self.ended,
+        }
+    }
+}
+
+// Moves the bytes that are left to the front.
+fn keep(buffer: &mut [u8], from: usize, to: usize)
+    requires { ⌜ (from ≤ to) × (to ≤ length (now buffer)) ⌝ }
+    ensures { λ _. ⌜ now (buffer .exit) ≡ sets (now (buffer .entry)) 0 (take (to - from) (drop from (now (buffer .entry)))) ⌝ }
+{
+    let count = to - from;
+    let mut i: usize = 0;
+    while i < count {
+        buffer[i] = buffer[from + i];
+        i += 1;
+    }
+}
+
+// One read behind the first `at` bytes, which stay.
+fn read_behind(fd: i32, buffer: &mut [u8], at: usize) -> Came
+    requires { ⌜ at ≤ length (now buffer) ⌝ }
+    ensures { λ r. ⌜ (at + r .count ≤ length (now (buffer .entry))) × (take at (now (buffer .exit)) ≡ take at (now (buffer .entry))) ⌝ }
+{
+    let got = libc::read(fd, &mut buffer[at..]);
+    Came {
+        count: io::count(got, &buffer[at..]),
+        failed: got < 0,
+    }
+}
+
+// Reads until the buffer is full, the file ends or a read fails.
+fn fill(fd: i32, buffer: &mut [u8], at: usize) -> Filled
+    requires { ⌜ at ≤ length (now buffer) ⌝ }
+    ensures { λ r. ⌜ FilledFrom (now (buffer .entry)) at (now (buffer .exit)) r ⌝ }
+{
+    let mut to = at;
+    while to < buffer.len() {
+        let came = read_behind(fd, buffer, to);
+        if came.failed {
+            return Filled {
+                to,
+                ended: false,
+                failed: true,
+            };
+        }
+        if came.count == 0 {
+            return Filled {
+                to,
+                ended: true,
+                failed: false,
+            };
+        }
+        to += came.count;
+    }
+    Filled {
+        to,
+        ended: false,
+        failed: false,
+    }
+}
+
+// Moves what is left to the front of the buffer and reads more behind it.
+pub fn refill(fd: i32, buffer: &mut [u8], window: Window) -> Refilled
+    requires { ⌜ Within window (length (now buffer)) ⌝ }
+    ensures { λ r. ⌜ RefilledFrom (now (buffer .entry)) window (now (buffer .exit)) r ⌝ }
+{
+    let from = window.from;
+    let to = window.to;
+    keep(buffer, from, to);
+    let filled = fill(fd, buffer, to - from);
+    Refilled {
+        window: Window {
+            from: 0,
+            to: filled.to,
+            ended: filled.ended,
+        },
+        failed: filled.failed,
+    }
+}

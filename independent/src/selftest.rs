@@ -1,0 +1,584 @@
+//! The program's own tests: 01's "Numbers worked through", its trace example, and each bound on both sides.
+
+use crate::connection::{self, Answer, Record, Settings, ALL_ZERO};
+use crate::links::{self, Role, State};
+use crate::message::{self, After, Message};
+use crate::packet::{self, Link, Packet};
+use crate::replay::{self, Call};
+use crate::{annex, calls, messages, streams, table, traces};
+use std::collections::BTreeSet;
+use std::fmt::Debug;
+
+/// Counts the cases and prints those that fail.
+#[derive(Default)]
+pub struct Tests {
+    pub cases: usize,
+    pub failed: usize,
+}
+
+impl Tests {
+    fn equal<T: PartialEq + Debug>(&mut self, what: &str, got: T, wanted: T) {
+        self.cases += 1;
+        if got != wanted {
+            self.failed += 1;
+            println!("failed: {what}: {got:?}, wanted {wanted:?}");
+        }
+    }
+}
+
+pub fn all() -> Tests {
+    let mut tests = Tests::default();
+    header_check(&mut tests);
+    packet_writing(&mut tests);
+    packet_rows(&mut tests);
+    packet_first_rows(&mut tests);
+    two_links(&mut tests);
+    message_bounds(&mut tests);
+    offsets(&mut tests);
+    worked_set_up(&mut tests);
+    worked_ages(&mut tests);
+    worked_numbers(&mut tests);
+    set_up_rows(&mut tests);
+    waits(&mut tests);
+    callers_faults(&mut tests);
+    settings_bounds(&mut tests);
+    error_counter(&mut tests);
+    whole_set_up(&mut tests);
+    table_sizes(&mut tests);
+    trace_replay(&mut tests);
+    everything_occurs(&mut tests);
+    tests
+}
+
+// Packets.
+
+fn header_check(tests: &mut Tests) {
+    for row in annex::ROWS {
+        tests.equal("004's annex by the other bit order", packet::check_other_order(&row.header), row.annex);
+    }
+    tests.equal("the annex's first header by 01's rule", packet::check(&annex::ROWS[0].header), 0xBBF6);
+    // The known value of this check with the end inverted (CRC-16/X-25) is 906E.
+    tests.equal("the well-known nine digits", packet::check(b"123456789") ^ 0xFFFF, 0x906E);
+    tests.equal("no bytes", packet::check(&[]), 0xFFFF);
+}
+
+fn plain(kind: u8, number: u16, data: &[u8]) -> Packet<'_> {
+    Packet { version: 1, application: 0x1A, number, kind, data }
+}
+
+fn written(kind: u8, number: u16, data: &[u8], room: usize) -> (u16, usize) {
+    let mut out = vec![0xA5; room];
+    let got = packet::write(Link::Normal, &plain(kind, number, data), &mut out);
+    if got.0 != 0 {
+        assert!(out.iter().all(|byte| *byte == 0xA5), "a refused packet wrote a byte");
+    }
+    got
+}
+
+fn packet_writing(tests: &mut Tests) {
+    let data = [0_u8; 1025];
+    let au1 = |length: usize, class: u8| {
+        let mut bytes = vec![9; length];
+        if length > 8 {
+            bytes[8] = class;
+        }
+        bytes
+    };
+    tests.equal("data 1,024", written(3, 5, &data[..1024], 1034), (0, 1034));
+    tests.equal("data 1,025", written(3, 5, &data, 2000), (312, 0));
+    tests.equal("out 10 + n", written(3, 5, &data[..20], 30), (0, 30));
+    tests.equal("out 10 + n - 1", written(3, 5, &data[..20], 29), (313, 0));
+    tests.equal("312 before 313", written(4, 5, &data, 0), (312, 0));
+    tests.equal("311 before 312", written(5, 5, &data, 0), (311, 0));
+    for kind in [0, 5, 250, 251, 252, 253, 254, 255] {
+        tests.equal("type not in class D", written(kind, 0, &data[..20], 100), (311, 0));
+    }
+    for kind in [3, 4] {
+        tests.equal("type in class D", written(kind, 65535, &[], 10), (0, 10));
+    }
+    tests.equal("AU1 of 9 bytes", written(1, 0, &au1(9, 3), 19), (0, 19));
+    tests.equal("AU1 of 8 bytes", written(1, 0, &au1(8, 3), 100), (311, 0));
+    tests.equal("AU1 of class 0", written(1, 0, &au1(9, 0), 100), (311, 0));
+    tests.equal("AU1 numbered 1", written(1, 1, &au1(9, 3), 100), (311, 0));
+    tests.equal("AU2 of 4 bytes", written(2, 0, &data[..4], 14), (0, 14));
+    tests.equal("AU2 of 3 bytes", written(2, 0, &data[..3], 100), (311, 0));
+    tests.equal("AU2 numbered 1", written(2, 1, &data[..4], 100), (311, 0));
+}
+
+// Two links.
+
+fn later(last: u16, strict: bool) -> State {
+    State { first: false, last, ..links::fresh(Role::Responder, strict) }
+}
+
+fn judged(state: State, link: Link, bytes: &[u8]) -> (u16, usize) {
+    let (_, step) = match link {
+        Link::Normal => links::step(state, bytes, 0, &[], 0),
+        Link::Redundant => links::step(state, &[], 0, bytes, 0),
+    };
+    (step.answer, step.used)
+}
+
+/// A header with a length and right check, and user data enough for any length.
+fn with_length(length: u16) -> Vec<u8> {
+    let mut bytes = packet::bytes_of(Link::Normal, &plain(3, 1, &[0; 1100]));
+    bytes[..2].copy_from_slice(&length.to_be_bytes());
+    let check = packet::check(&bytes[..8]).to_be_bytes();
+    bytes[8..10].copy_from_slice(&check);
+    bytes
+}
+
+fn packet_rows(tests: &mut Tests) {
+    for (length, answer, used) in [(7, 302, 0), (8, 0, 10), (1032, 0, 1034), (1033, 302, 0), (0, 302, 0), (65535, 302, 0)] {
+        tests.equal("length", judged(later(0, true), Link::Normal, &with_length(length)), (answer, used));
+    }
+    tests.equal("length fault seen at 2 bytes", judged(later(0, true), Link::Normal, &[0, 7]), (302, 0));
+    tests.equal("not seen at 1 byte", judged(later(0, true), Link::Normal, &[0]), (301, 0));
+    let good = packet::bytes_of(Link::Normal, &plain(3, 1, &[4; 5]));
+    tests.equal("whole", judged(later(0, true), Link::Normal, &good), (0, 15));
+    tests.equal("one byte short", judged(later(0, true), Link::Normal, &good[..14]), (301, 0));
+    let mut damaged = good.clone();
+    damaged[9] ^= 1;
+    tests.equal("check wrong", judged(later(0, true), Link::Normal, &damaged), (303, 0));
+    tests.equal("check before flag", judged(later(0, true), Link::Redundant, &damaged), (303, 0));
+    tests.equal("flag 1 on redundant", judged(later(0, true), Link::Redundant, &good), (304, 0));
+    let other = packet::bytes_of(Link::Redundant, &plain(251, 1, &[]));
+    tests.equal("flag 0 on normal", judged(later(0, true), Link::Normal, &other), (304, 0));
+    tests.equal("type not in class D", judged(later(0, true), Link::Redundant, &other), (305, 10));
+    let numbered = |kind, number| packet::bytes_of(Link::Normal, &plain(kind, number, &[]));
+    for (last, number, strict, answer) in [
+        (5, 5, false, 306), (5, 6, true, 0), (5, 7, true, 307), (5, 7, false, 0), (5, 32772, false, 0), (5, 32772, true, 307),
+        (5, 32773, false, 306), (5, 4, false, 306), (65535, 0, true, 0), (65535, 1, true, 307), (65535, 32766, false, 0), (65535, 32767, false, 306),
+    ] {
+        tests.equal("number", judged(later(last, strict), Link::Normal, &numbered(3, number)).0, answer);
+    }
+    for kind in [1, 2] {
+        tests.equal("AU1 or AU2 later", judged(later(5, false), Link::Normal, &numbered(kind, 6)), (306, 10));
+    }
+    tests.equal("release", judged(later(5, true), Link::Normal, &numbered(4, 6)), (0, 10));
+}
+
+fn packet_first_rows(tests: &mut Tests) {
+    let mut ids = [7_u8; 9];
+    ids[8] = 3;
+    let mut class_0 = ids;
+    class_0[8] = 0;
+    for (role, kind, number, data, answer) in [
+        (Role::Responder, 1, 0, &ids[..9], 0), (Role::Responder, 1, 0, &ids[..8], 309), (Role::Responder, 1, 0, &class_0[..], 309),
+        (Role::Responder, 1, 1, &ids[..], 309), (Role::Responder, 2, 0, &ids[..], 309), (Role::Responder, 3, 0, &ids[..], 309),
+        (Role::Initiator, 2, 0, &ids[..4], 0), (Role::Initiator, 2, 0, &ids[..3], 309), (Role::Initiator, 2, 65535, &ids[..4], 309),
+        (Role::Initiator, 1, 0, &ids[..], 309), (Role::Initiator, 4, 0, &ids[..], 309), (Role::Initiator, 253, 0, &ids[..], 305),
+    ] {
+        let bytes = packet::bytes_of(Link::Normal, &plain(kind, number, data));
+        for strict in [true, false] {
+            tests.equal("first packet", judged(links::fresh(role, strict), Link::Normal, &bytes), (answer, 10 + data.len()));
+            let leftover = State { last: 60_000, ..links::fresh(role, strict) };
+            tests.equal("first packet has no d", judged(leftover, Link::Normal, &bytes).0, answer);
+        }
+    }
+}
+
+fn two_links(tests: &mut Tests) {
+    let normal = packet::bytes_of(Link::Normal, &plain(3, 1, &[1, 2]));
+    let redundant = packet::bytes_of(Link::Redundant, &plain(3, 2, &[3]));
+    let state = later(0, false);
+    let (after, step) = links::step(state, &normal, 0, &redundant, 0);
+    tests.equal("the normal link first", (step.answer, step.link, step.used, after.last), (0, Link::Normal, 12, 1));
+    tests.equal("its user data", step.packet.map(|taken| taken.data), Some(&normal[10..]));
+    let (after, step) = links::step(after, &normal, 12, &redundant, 0);
+    tests.equal("then the redundant one", (step.answer, step.link, step.used, after.last), (0, Link::Redundant, 11, 2));
+    let (after, step) = links::step(after, &normal, usize::MAX, &redundant, 12);
+    tests.equal("a place past the end", (after.last, step.answer, step.link, step.used), (2, 301, Link::Normal, 0));
+    let (after, step) = links::step(state, &redundant, 0, &normal, 0);
+    tests.equal("goes down", (step.answer, step.link, after.normal_up, after.redundant_up), (304, Link::Normal, false, true));
+    let (after, step) = links::step(after, &normal, 0, &normal, 0);
+    tests.equal("a link that is down is not looked at", (step.answer, step.link, after.redundant_up), (304, Link::Redundant, false));
+    let (down, step) = links::step(after, &normal, 0, &redundant, 0);
+    tests.equal("both links down", (step.answer, step.link, step.used, down), (308, Link::Normal, 0, after));
+    let mut ids = [7; 9];
+    ids[8] = 3;
+    let au1_normal = packet::bytes_of(Link::Normal, &plain(1, 0, &ids));
+    let au1_redundant = packet::bytes_of(Link::Redundant, &plain(1, 0, &ids));
+    tests.equal(
+        "what cut prints",
+        links::cut(Role::Responder, true, &au1_normal, &au1_redundant),
+        String::from("link answer used type number data\nnormal 0 19 1 0 9\nredundant 306 19 0 0 0\nnormal 301 0 0 0 0\nend 1\n"),
+    );
+}
+
+// Messages.
+
+fn message_bounds(tests: &mut Tests) {
+    let taken = |kind: u8, total: usize| {
+        let mut bytes = vec![0; total];
+        if total > 0 {
+            bytes[0] = kind;
+        }
+        message::parse(&bytes).map(|parsed| message::bytes_of(&parsed) == bytes)
+    };
+    for (kind, total) in [(1, 19), (2, 19), (3, 15), (4, 25), (5, 16), (6, 15), (6, 1000)] {
+        tests.equal("a listed total, written back", taken(kind, total), Some(true));
+    }
+    for (kind, total) in [
+        (1, 18), (1, 20), (2, 18), (2, 20), (3, 14), (3, 16), (4, 24), (4, 26), (5, 15), (5, 17), (6, 14), (6, 1001), (0, 15), (7, 15), (6, 0),
+    ] {
+        tests.equal("a total not listed", taken(kind, total), None);
+    }
+    let start = Message { number: 7, stamp: 1000, last_peer_stamp: 0, own_count_at_arrival: 0, after: After::Start { period: 50 } };
+    let bytes = vec![1, 0, 7, 0, 0, 3, 0xE8, 0, 0, 0, 0, 0, 0, 0, 0, 0, 0, 0, 0x32];
+    tests.equal("OffsetStart number 7, count 1000, period 50", message::bytes_of(&start), bytes.clone());
+    for at in 7..15 {
+        let mut nonzero = bytes.clone();
+        nonzero[at] = 1;
+        tests.equal("a nonzero later stamp in type 1", message::parse(&nonzero), None);
+    }
+    for (byte, after) in [(0, Some(false)), (1, Some(true)), (2, None)] {
+        let mut end = vec![0; 16];
+        end[0] = 5;
+        end[15] = byte;
+        let valid = message::parse(&end).map(|parsed| parsed.after == After::End { valid: true });
+        tests.equal("check byte", valid, after);
+    }
+}
+
+fn offsets(tests: &mut Tests) {
+    tests.equal("-880", message::offset_bytes(-880), [1, 0, 0, 3, 0x70]);
+    for (sign, magnitude, offset) in [
+        (0, 0, Some(0)), (0, 0x7FFF_FFFF, Some(i32::MAX)), (0, 0x8000_0000, None), (1, 0, None), (1, 1, Some(-1)),
+        (1, 0x8000_0000, Some(i32::MIN)), (1, 0x8000_0001, None), (2, 1, None),
+    ] {
+        tests.equal("sign and magnitude", message::offset_read(sign, magnitude), offset);
+        if let Some(offset) = offset {
+            let [a, b, c, d] = magnitude.to_be_bytes();
+            tests.equal("and back", message::offset_bytes(offset), [sign, a, b, c, d]);
+        }
+    }
+}
+
+// One connection.
+
+const SET: Settings = Settings { n: 3, t_max: 40, e: 0, t_start: 500, t_off: 10, limit: 3 };
+
+fn begun(role: Role, settings: Settings, now: u32) -> (Record, Answer, Vec<u8>) {
+    let mut out = vec![0; 1000];
+    let (record, answer) = connection::begin(ALL_ZERO, Some(role), settings, 7, 50, now, &mut out);
+    out.truncate(answer.written);
+    (record, answer, out)
+}
+
+fn received(record: Record, now: u32, message: &Message) -> (Record, Answer, Vec<u8>) {
+    let mut out = vec![0; 25];
+    let (after, answer) = connection::receive(record, now, &message::bytes_of(message), &mut out);
+    out.truncate(answer.written);
+    (after, answer, out)
+}
+
+fn msg(number: u16, stamp: u32, last_peer_stamp: u32, own_count_at_arrival: u32, after: After<'_>) -> Message<'_> {
+    Message { number, stamp, last_peer_stamp, own_count_at_arrival, after }
+}
+
+/// The initiator of the worked numbers after Answ1: it waits for 4.
+fn initiator_waits_4(settings: Settings) -> Record {
+    let (record, _, _) = begun(Role::Initiator, settings, 1000);
+    received(record, 1080, &msg(20, 200, 1000, 170, After::Answ1 { period: 5 })).0
+}
+
+fn responder_waits_3(settings: Settings) -> Record {
+    let (record, _, _) = begun(Role::Responder, settings, 100);
+    received(record, 200, &msg(40, 1000, 0, 0, After::Start { period: 50 })).0
+}
+
+fn responder_waits_5(settings: Settings) -> Record {
+    received(responder_waits_3(settings), 260, &msg(41, 1100, 200, 1080, After::Answ2)).0
+}
+
+fn est(number: u16) -> Message<'static> {
+    msg(number, 270, 1080, 260, After::Est { min: -880, max: -840 })
+}
+
+fn worked_set_up(tests: &mut Tests) {
+    let initiator = initiator_waits_4(SET);
+    tests.equal("initiator 830, 880", (initiator.min, initiator.max), (830, 880));
+    let responder = responder_waits_5(SET);
+    tests.equal("responder -880, -840", (responder.min, responder.max), (-880, -840));
+    let (open, answer, out) = received(initiator, 1120, &est(21));
+    tests.equal("T_off 10 accepts", (answer.number, answer.released, open.phase, out.len(), out[15]), (0, false, connection::OPEN, 16, 1));
+    let strict = Settings { t_off: 9, ..SET };
+    let (after, answer, out) = received(initiator_waits_4(strict), 1120, &est(21));
+    tests.equal("T_off 9 gives 209", (answer.number, answer.released, after, out.len(), out[15]), (209, true, ALL_ZERO, 16, 0));
+    let accepts = |min, max, peer_min, peer_max| connection::accepts(&Record { min, max, settings: SET, ..ALL_ZERO }, peer_min, peer_max);
+    for (min, max, peer_min, peer_max, accepted) in [
+        (830, 880, -880, -840, true), (830, 880, -880, -841, false), (830, 880, -880, -820, true), (830, 880, -880, -819, false),
+        (830, 880, -881, -840, false), (830, 880, -879, -840, false), (880, 880, -880, -880, true), (881, 880, -880, -881, false),
+        (i32::MIN, i32::MIN, i32::MIN, i32::MIN, true), (i32::MIN, 0, 0, 0, false), (i32::MAX, i32::MIN, i32::MIN, i32::MIN, true),
+    ] {
+        tests.equal("the initiator's check", accepts(min, max, peer_min, peer_max), accepted);
+    }
+}
+
+fn open(settings: Settings, min: i32, last_number: u16, clock: u32) -> Record {
+    Record { phase: connection::OPEN, settings, min, max: min, last_number, clock, ..ALL_ZERO }
+}
+
+fn worked_ages(tests: &mut Tests) {
+    let data = [1, 2, 3];
+    for (min, stamp, now, t_max, age, number) in [
+        (830, 300, 1170, 40, 40, 0), (830, 300, 1170, 39, 40, 205), (830, 300, 1130, 40, 0, 0), (830, 300, 1129, 40, -1, 206),
+        (-880, 1200, 365, 45, 45, 0), (-880, 1200, 365, 44, 45, 205), (830, 4294967290, 860, 36, 36, 0), (830, 4294967290, 860, 35, 36, 205),
+    ] {
+        tests.equal("age", connection::age(now, stamp, 0, min), age);
+        let settings = Settings { t_max, ..SET };
+        let (after, answer, _) = received(open(settings, min, 10, now), now, &msg(11, stamp, 0, 0, After::Application { data: &data }));
+        let delivered = if number == 0 { 15..18 } else { 0..0 };
+        tests.equal("judged", (answer.number, answer.delivered, answer.released), (number, delivered, false));
+        let kept = (after.last_number, after.peer_stamp, after.arrival, after.errors);
+        tests.equal("remembered", kept, if number == 0 { (11, stamp, now, 0) } else { (10, 0, 0, 1) });
+    }
+    tests.equal("E makes it older", connection::age(1130, 300, 7, 830), 7);
+}
+
+/// What a type 6 of age 0 with a number gets when open.
+fn when_open(settings: Settings, last: u16, number: u16) -> (u16, bool, bool) {
+    let (_, answer, _) = received(open(settings, 0, last, 500), 500, &msg(number, 500, 0, 0, After::Application { data: &[9] }));
+    (answer.number, answer.released, !answer.delivered.is_empty())
+}
+
+fn worked_numbers(tests: &mut Tests) {
+    tests.equal("last 65535, next 0", when_open(SET, 65535, 0), (0, false, true));
+    tests.equal("N 3, last 10: 12", when_open(SET, 10, 12), (204, false, true));
+    tests.equal("N 3, last 10: 13", when_open(SET, 10, 13), (204, false, true));
+    tests.equal("N 3, last 10: 14", when_open(SET, 10, 14), (203, true, false));
+    tests.equal("N 3, last 10: 10", when_open(SET, 10, 10), (202, false, false));
+    tests.equal("last 5: 32772", when_open(SET, 5, 32772), (203, true, false));
+    tests.equal("last 5: 32773", when_open(SET, 5, 32773), (202, false, false));
+    let most = Settings { n: 1000, ..SET };
+    tests.equal("N 1,000: d = 1,000", when_open(most, 0, 1000), (204, false, true));
+    tests.equal("N 1,000: d = 1,001", when_open(most, 0, 1001), (203, true, false));
+    let one = Settings { n: 1, ..SET };
+    tests.equal("N 1: d = 2", when_open(one, 0, 2), (203, true, false));
+    let after_gap = received(open(SET, 0, 10, 500), 500, &msg(13, 499, 0, 0, After::Application { data: &[9] })).0;
+    tests.equal("after a gap that number is the last", (after_gap.last_number, after_gap.peer_stamp, after_gap.arrival), (13, 499, 500));
+    let late = msg(12, 400, 0, 0, After::Application { data: &[9] });
+    let (after, answer, _) = received(open(SET, 0, 10, 500), 500, &late);
+    tests.equal("late and after a gap", (answer.number, answer.delivered, after.errors, after.last_number), (205, 0..0, 1, 10));
+    let repeated = msg(10, 400, 0, 0, After::Application { data: &[9] });
+    tests.equal("number before age", received(open(SET, 0, 10, 500), 500, &repeated).1.number, 202);
+    let empty = msg(11, 500, 0, 0, After::Application { data: &[] });
+    let (after, answer, _) = received(Record { errors: 2, ..open(SET, 0, 10, 500) }, 500, &empty);
+    tests.equal("an empty type 6", (answer.number, answer.delivered.len(), after.last_number, after.errors), (0, 0, 11, 0));
+}
+
+/// The answer, and what was written, for a message in set-up; anything but 0 must release.
+fn in_set_up(record: Record, now: u32, message: &Message) -> (u16, usize) {
+    let (after, answer, out) = received(record, now, message);
+    assert_eq!(answer.released, answer.number != 0, "an error in set-up releases");
+    assert_eq!(after == ALL_ZERO, answer.released, "a released slot is all zero");
+    (answer.number, out.len())
+}
+
+fn set_up_rows(tests: &mut Tests) {
+    let end = |number, echo, valid| msg(number, 1130, echo, 1125, After::End { valid });
+    let start = begun(Role::Initiator, SET, 1000).0;
+    for number in [0, 7, 65535] {
+        tests.equal("the first number is not judged", in_set_up(start, 1080, &msg(number, 200, 1000, 170, After::Answ1 { period: 0 })), (0, 15));
+    }
+    tests.equal("Answ1 without its echo", in_set_up(start, 1080, &msg(1, 200, 1001, 170, After::Answ1 { period: 0 })), (208, 0));
+    tests.equal("type not expected", in_set_up(start, 1080, &est(21)), (211, 0));
+    let waits_4 = initiator_waits_4(SET);
+    let failing = |number, echo| msg(number, 270, echo, 260, After::Est { min: -881, max: -840 });
+    for (message, answer, written) in [
+        (est(21), 0, 16), (est(20), 202, 0), (est(19), 202, 0), (est(32787), 203, 0), (est(32788), 202, 0), (est(24), 203, 0),
+        (est(23), 204, 0), (est(22), 204, 0), (failing(21, 1080), 209, 16), (failing(23, 1080), 209, 16), (failing(24, 1080), 203, 0),
+        (failing(21, 1079), 208, 0), (failing(23, 1081), 208, 0), (failing(20, 1079), 202, 0),
+    ] {
+        tests.equal("initiator waits for 4", in_set_up(waits_4, 1120, &message), (answer, written));
+    }
+    let answ2 = |number, echo| msg(number, 1100, echo, 1080, After::Answ2);
+    for (message, answer, written) in [
+        (answ2(41, 200), 0, 25), (answ2(40, 200), 202, 0), (answ2(43, 200), 204, 0), (answ2(44, 200), 203, 0), (answ2(41, 201), 208, 0),
+        (answ2(43, 201), 208, 0), (end(41, 200, true), 211, 0),
+    ] {
+        tests.equal("responder waits for 3", in_set_up(responder_waits_3(SET), 260, &message), (answer, written));
+    }
+    for (message, answer, written) in [
+        (end(42, 260, true), 0, 0), (end(42, 260, false), 209, 0), (end(41, 260, true), 202, 0), (end(44, 260, true), 204, 0),
+        (end(44, 260, false), 209, 0), (end(45, 260, true), 203, 0), (end(42, 261, false), 208, 0), (answ2(42, 260), 211, 0),
+    ] {
+        tests.equal("responder waits for 5", in_set_up(responder_waits_5(SET), 300, &message), (answer, written));
+    }
+}
+
+fn waits(tests: &mut Tests) {
+    let start = |number| msg(number, 1, 0, 0, After::Start { period: 0 });
+    let (record, _, _) = begun(Role::Responder, SET, 100);
+    tests.equal("the responder's wait for 1 has no timer", connection::tick(record, 2_000_000_000).1.number, 0);
+    tests.equal("and takes a message then", received(record, 2_000_000_000, &start(1)).1.number, 0);
+    for (record, began) in [
+        (begun(Role::Initiator, SET, 4_294_967_000).0, 4_294_967_000_u32), (initiator_waits_4(SET), 1080), (responder_waits_3(SET), 200), (responder_waits_5(SET), 260),
+    ] {
+        let (before, at) = (began.wrapping_add(499), began.wrapping_add(500));
+        tests.equal("a tick before the end", connection::tick(record, before).1.number, 0);
+        tests.equal("a tick at the end", connection::tick(record, at), (ALL_ZERO, Answer { number: 207, released: true, written: 0, delivered: 0..0 }));
+        let mut out = [0; 25];
+        tests.equal("malformed before the end", connection::receive(record, before, &[], &mut out).1.number, 201);
+        tests.equal("expired and malformed", connection::receive(record, at, &[], &mut out).1.number, 207);
+    }
+}
+
+fn callers_faults(tests: &mut Tests) {
+    let record = open(SET, 0, 10, 1000);
+    let mut out = [0xA5_u8; 1000];
+    let unusable = [6_u8; 3];
+    for (now, number) in [(1000, 0), (999, 105), (1000 + 0x7FFF_FFFF, 0), (1000_u32.wrapping_add(0x8000_0000), 105)] {
+        tests.equal("tick's clock", connection::tick(record, now).1.number, number);
+    }
+    for (room, number) in [(25, 201), (24, 108)] {
+        let (after, answer) = connection::receive(record, 1001, &unusable, &mut out[..room]);
+        tests.equal("receive asks 25", (answer.number, after.clock), (number, if number == 108 { 1000 } else { 1001 }));
+    }
+    tests.equal("105 before 108", connection::receive(record, 999, &unusable, &mut []).1.number, 105);
+    let data = [0_u8; 986];
+    for (length, room, number) in [(985, 1000, 0), (986, 1000, 107), (986, 0, 107), (20, 35, 0), (20, 34, 108), (0, 15, 0), (0, 14, 108)] {
+        tests.equal("send", connection::send(record, 1000, &data[..length], &mut out[..room]).1.number, number);
+    }
+    tests.equal("send is an accepted call", connection::send(record, 1007, &[], &mut out).0.clock, 1007);
+    tests.equal("105 before 106", connection::send(initiator_waits_4(SET), 1079, &[], &mut []).1.number, 105);
+    tests.equal("106 before 107", connection::send(initiator_waits_4(SET), 1080, &data, &mut []).1.number, 106);
+    for (room, number) in [(19, 0), (18, 108)] {
+        tests.equal("begin asks 19", connection::begin(ALL_ZERO, Some(Role::Initiator), SET, 0, 0, 5, &mut out[..room]).1.number, number);
+    }
+    tests.equal("a responder's begin asks none", connection::begin(ALL_ZERO, Some(Role::Responder), SET, 0, 0, 5, &mut []).1.number, 0);
+    tests.equal("103 before 104", connection::begin(record, None, SET, 0, 0, 5, &mut []).1.number, 103);
+    tests.equal("104 before 108", connection::begin(ALL_ZERO, None, SET, 0, 0, 5, &mut []).1.number, 104);
+    let leftovers = Record { phase: connection::CLOSED, errors: 200, ..record };
+    tests.equal("a closed record with leftovers is closed", connection::tick(leftovers, 0), (leftovers, Answer { number: 102, released: false, written: 0, delivered: 0..0 }));
+    tests.equal("and can be begun", connection::begin(leftovers, Some(Role::Responder), SET, 7, 50, 100, &mut []).0, begun(Role::Responder, SET, 100).0);
+    for (faulty, number) in [
+        (Record { errors: 3, ..record }, 101), (Record { errors: 2, ..record }, 0), (Record { phase: 7, ..record }, 101),
+        (Record { settings: Settings { n: 0, ..SET }, ..record }, 101),
+    ] {
+        tests.equal("a record out of range", connection::tick(faulty, 1000).1.number, number);
+        let begin = connection::begin(faulty, None, SET, 0, 0, 0, &mut []).1.number;
+        tests.equal("101 before 103", begin, if number == 101 { 101 } else { 103 });
+    }
+    tests.equal("close", connection::close(record), (ALL_ZERO, Answer { number: 0, released: true, written: 0, delivered: 0..0 }));
+    tests.equal("close when closed", connection::close(ALL_ZERO).1.number, 102);
+}
+
+fn settings_bounds(tests: &mut Tests) {
+    let with = |n, t_max, e, t_start, t_off, limit| connection::in_range(&Settings { n, t_max, e, t_start, t_off, limit });
+    for (settings, kept) in [
+        (with(1, 1, 0, 1, 0, 1), true), (with(1000, 60_000, 60_000, 60_000, 60_000, 255), true), (with(0, 1, 0, 1, 0, 1), false),
+        (with(1001, 1, 0, 1, 0, 1), false), (with(1, 0, 0, 1, 0, 1), false), (with(1, 60_001, 0, 1, 0, 1), false), (with(1, 5, 5, 1, 0, 1), true),
+        (with(1, 5, 6, 1, 0, 1), false), (with(1, 1, 0, 0, 0, 1), false), (with(1, 1, 0, 60_001, 0, 1), false), (with(1, 1, 0, 1, 60_001, 1), false),
+        (with(1, 1, 0, 1, 0, 0), false),
+    ] {
+        tests.equal("settings", settings, kept);
+    }
+}
+
+fn error_counter(tests: &mut Tests) {
+    let application = |number, stamp| msg(number, stamp, 0, 0, After::Application { data: &[5] });
+    let at = |errors| Record { errors, ..open(SET, 0, 10, 500) };
+    for (message, number, delivered) in [(application(10, 500), 202, 0), (application(12, 500), 204, 1), (application(11, 400), 205, 0), (application(11, 501), 206, 0)] {
+        let (after, answer, _) = received(at(1), 500, &message);
+        tests.equal("raised by one", (answer.number, answer.released, after.errors), (number, false, 2));
+        let (after, answer, _) = received(at(2), 500, &message);
+        tests.equal("reaching the limit", (answer.number, answer.released, after, answer.delivered.len()), (number, true, ALL_ZERO, delivered));
+    }
+    tests.equal("an errorless delivery", received(at(2), 500, &application(11, 500)).0.errors, 0);
+    let mut out = [0; 25];
+    let (after, answer) = connection::receive(at(2), 600, &[1], &mut out);
+    tests.equal("201 when open", (answer.number, answer.released, after), (201, false, Record { clock: 600, ..at(2) }));
+    let (after, answer, _) = received(at(2), 600, &est(11));
+    tests.equal("211 when open", (answer.number, answer.released, after), (211, false, Record { clock: 600, ..at(2) }));
+}
+
+/// Two of our own ends, the responder's clock 850 behind, each message 10 under way.
+fn whole_set_up(tests: &mut Tests) {
+    let (initiator, _, start) = begun(Role::Initiator, SET, 1000);
+    let (responder, _, _) = begun(Role::Responder, SET, 0);
+    let mut out = [0; 25];
+    let mut took = |record, now, bytes: &[u8]| {
+        let (after, answer) = connection::receive(record, now, bytes, &mut out);
+        (after, answer.number, out[..answer.written].to_vec())
+    };
+    let (responder, first, answ1) = took(responder, 160, &start);
+    let (initiator, second, answ2) = took(initiator, 1020, &answ1);
+    let (responder, third, est) = took(responder, 180, &answ2);
+    let (initiator, fourth, end) = took(initiator, 1040, &est);
+    let (responder, fifth, nothing) = took(responder, 200, &end);
+    tests.equal("five messages", [first, second, third, fourth, fifth], [0; 5]);
+    tests.equal("both open", (initiator.phase, responder.phase, nothing.len()), (connection::OPEN, connection::OPEN, 0));
+    tests.equal("offsets", (initiator.min, initiator.max, responder.min, responder.max), (840, 860, -860, -840));
+    tests.equal("numbers", (initiator.own_next_number, initiator.last_number, responder.own_next_number, responder.last_number), (10, 8, 9, 9));
+    let mut wide = [0; 1000];
+    let (_, sent) = connection::send(responder, 210, b"data", &mut wide);
+    let (_, number, _) = took(initiator, 1070, &wide[..sent.written]);
+    tests.equal("then data", (sent.number, sent.written, number), (0, 19, 0));
+}
+
+fn table_sizes(tests: &mut Tests) {
+    for (size, slot, number) in [(0, 0, 101), (1, 0, 102), (1, 1, 101), (64, 63, 102), (64, 64, 101), (65, 0, 101)] {
+        let mut records = vec![ALL_ZERO; size];
+        tests.equal("table size and slot", table::tick(&mut records, slot, 0).number, number);
+        tests.equal("for close too", table::close(&mut records, slot).number, number);
+    }
+}
+
+// Replay.
+
+fn trace_replay(tests: &mut Tests) {
+    let tick = replay::bytes_of(&Call { kind: replay::TICK, slot: 0, now: 0, bytes: &[] });
+    let printed = |trace: &[u8]| replay::replay(trace);
+    tests.equal("one tick on slot 0", printed(&tick), String::from("slot answer\n0 102\nend 1\n"));
+    tests.equal("an empty file", printed(&[]), String::from("slot answer\nend 0\n"));
+    let bad = String::from("slot answer\n0 102\nbad\nend 1\n");
+    for length in 1..10 {
+        let mut cut = tick.clone();
+        cut.extend(&tick[..length]);
+        tests.equal("a cut record", printed(&cut), bad.clone());
+    }
+    for (at, byte) in [(0, 0x53), (1, 0x33), (2, 0), (2, 6), (9, 1)] {
+        let mut spoiled = [tick.clone(), tick.clone()].concat();
+        spoiled[10 + at] = byte;
+        tests.equal("a bad record", printed(&spoiled), bad.clone());
+    }
+    for (length, answer) in [(1000_u16, "0 102\n"), (1001, "bad\n")] {
+        let mut trace = tick.clone();
+        trace[8..10].copy_from_slice(&length.to_be_bytes());
+        trace.resize(10 + usize::from(length), 0);
+        let count = usize::from(length == 1000);
+        tests.equal("length 1,000", printed(&trace), format!("slot answer\n{answer}end {count}\n"));
+    }
+    let begin = crate::craft::begin_bytes(0, &SET, 1, 2);
+    for (bytes, answer) in [(&begin[..], 0), (&begin[..25], 104), (&[&begin[..], &[0]].concat(), 104), (&crate::craft::begin_bytes(2, &SET, 1, 2), 104)] {
+        let trace = replay::bytes_of(&Call { kind: replay::BEGIN, slot: 63, now: 9, bytes });
+        tests.equal("begin", printed(&trace), format!("slot answer\n63 {answer}\nend 1\n"));
+        let trace = replay::bytes_of(&Call { kind: replay::BEGIN, slot: 64, now: 9, bytes });
+        tests.equal("begin on a bad slot", printed(&trace), String::from("slot answer\n64 101\nend 1\n"));
+    }
+}
+
+// The makers of random input reach every answer.
+
+fn everything_occurs(tests: &mut Tests) {
+    tests.equal("answers that no trace shows", traces::missing(&traces::counts_of(1, 200)), Vec::new());
+    let answers: BTreeSet<String> = streams::steps(1, 4000).filter_map(|trial| trial.line().split(" = ").nth(1).map(first_word)).collect();
+    let wanted = ["0", "301", "302", "303", "304", "305", "306", "307", "308", "309"].map(String::from);
+    tests.equal("answers of steps", answers, BTreeSet::from(wanted));
+    let answers: BTreeSet<String> = calls::calls(1, 40_000).filter_map(|(_, line)| line.split(" = ").nth(1).map(first_word)).collect();
+    let wanted = [
+        "0", "101", "102", "103", "104", "105", "106", "107", "108", "201", "202", "203", "204", "205", "206", "207", "208", "209", "211",
+    ];
+    tests.equal("answers of calls", answers, BTreeSet::from(wanted.map(String::from)));
+    for bytes in messages::messages(1, 1) {
+        if let Some(parsed) = message::parse(&bytes) {
+            tests.equal("accepted writes back as the same bytes", message::bytes_of(&parsed) == bytes, true);
+        }
+    }
+}
+
+fn first_word(text: &str) -> String {
+    text.split(' ').next().unwrap_or("").to_string()
+}

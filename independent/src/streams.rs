@@ -1,0 +1,372 @@
+//! Random pairs of link bytes, and random single steps, from fixed seeds.
+
+use crate::links::{self, Role, State};
+use crate::packet::{self, Link, Packet};
+use crate::random::Random;
+use std::collections::BTreeMap;
+use std::path::Path;
+
+/// A packet as the peer means to send it.
+#[derive(Clone)]
+struct Meant {
+    kind: u8,
+    number: u16,
+    data: Vec<u8>,
+}
+
+/// How often each kind of fault is put in: once in so many packets, 0 never.
+#[derive(Clone, Copy)]
+struct Faults {
+    /// Length, check and flag: the link goes down.
+    link: u64,
+    /// Type, number, first packet: used and dropped.
+    dropped: u64,
+    /// Lost on one link.
+    lost: u64,
+    /// Repeated on one link.
+    repeated: u64,
+}
+
+fn happens(random: &mut Random, rate: u64) -> bool {
+    rate > 0 && random.once_in(rate)
+}
+
+fn some_role(random: &mut Random) -> Role {
+    random.pick(&[Role::Initiator, Role::Responder])
+}
+
+/// Any user data length, the bounds often; in a long conversation mostly long ones.
+fn some_length(random: &mut Random, long: bool) -> usize {
+    match random.below(8) {
+        0 => random.pick(&[0, 1, 1023, 1024]),
+        1 => random.between(0, 1024) as usize,
+        _ if long => random.between(0, 1024) as usize,
+        _ => random.between(0, 40) as usize,
+    }
+}
+
+/// The first packet that the role waits for, with what it must hold.
+fn first_meant(random: &mut Random, role: Role) -> Meant {
+    let tail = random.pick(&[0, 0, 1, 20]);
+    let (kind, least) = match role {
+        Role::Responder => (packet::AU1, 9),
+        Role::Initiator => (packet::AU2, 4),
+    };
+    let mut data = random.bytes(least + tail);
+    if role == Role::Responder {
+        data[packet::CLASS_AT] = packet::CLASS_D;
+    }
+    Meant { kind, number: 0, data }
+}
+
+/// The same with one thing wrong: type, number, class, or one byte short.
+fn first_faulty(random: &mut Random, role: Role) -> Meant {
+    let mut meant = first_meant(random, role);
+    match random.below(5) {
+        0 => meant.kind = random.pick(&[packet::AU1, packet::AU2, packet::DATA, packet::RELEASE]),
+        1 => meant.number = random.pick(&[1, 2, 256, 32767, 32768, 65535]),
+        2 if role == Role::Responder => meant.data[packet::CLASS_AT] = random.pick(&[0, 1, 2, 4, 255]),
+        3 => meant.data.truncate(if role == Role::Responder { 8 } else { 3 }),
+        _ => meant.data.clear(),
+    }
+    meant
+}
+
+/// The next number: mostly the one after, and jumps on both sides of each bound.
+fn next_number(random: &mut Random, last: u16, faults: Faults) -> u16 {
+    let d = if happens(random, faults.dropped) {
+        random.pick(&[0, 2, 3, 100, 32766, 32767, 32768, 32769, 65535])
+    } else {
+        1
+    };
+    last.wrapping_add(d)
+}
+
+/// What the peer means to send over both links.
+fn conversation(random: &mut Random, role: Role, count: usize, faults: Faults) -> Vec<Meant> {
+    let long = random.once_in(4);
+    let mut sent = Vec::new();
+    while happens(random, faults.dropped) {
+        sent.push(first_faulty(random, role));
+    }
+    sent.push(first_meant(random, role));
+    let mut last = 0;
+    for _ in 0..count {
+        let number = next_number(random, last, faults);
+        if number.wrapping_sub(last) < 32768 {
+            last = number;
+        }
+        let mut kind = if random.once_in(12) { packet::RELEASE } else { packet::DATA };
+        if happens(random, faults.dropped) {
+            kind = random.pick(&[1, 2, 0, 5, 127, 250, 251, 252, 253, 254, 255]);
+        }
+        let length = some_length(random, long);
+        sent.push(Meant { kind, number, data: random.bytes(length) });
+    }
+    sent
+}
+
+/// A meant packet's bytes on a link, perhaps with a fault in length, flag or check, or in several.
+fn on_link(random: &mut Random, link: Link, meant: &Meant, faults: Faults) -> Vec<u8> {
+    let packet = Packet { version: random.byte(), application: random.byte(), number: meant.number, kind: meant.kind, data: &meant.data };
+    let mut bytes = packet::bytes_of(link, &packet);
+    if !happens(random, faults.link) {
+        return bytes;
+    }
+    // 1 the length, 2 the flag, 4 the check.
+    let which = random.pick(&[1, 2, 2, 2, 4, 4, 4, 3, 5, 6, 7]);
+    if which & 1 != 0 && random.once_in(3) {
+        // One byte more than the most, all there.
+        let long = Meant { data: random.bytes(packet::DATA_MOST + 1), ..meant.clone() };
+        bytes = packet::bytes_of(link, &Packet { data: &long.data, ..packet });
+    } else if which & 1 != 0 {
+        let length: u16 = random.pick(&[0, 1, 7, 8, 9, 1032, 1033, 1034, 4096, 32768, 65535]);
+        bytes[..2].copy_from_slice(&length.to_be_bytes());
+    }
+    if which & 2 != 0 {
+        bytes[6] = random.pick(&[1 - link.flag(), 2, 255, bytes[6] ^ 0x80]);
+    }
+    let check = packet::check(&bytes[..packet::CHECKED]).to_be_bytes();
+    bytes[8..10].copy_from_slice(&check);
+    if which & 4 != 0 {
+        // One bit of the header or its check, the length left alone.
+        let bit = random.between(16, 79) as usize;
+        bytes[bit / 8] ^= 1 << (bit % 8);
+    }
+    bytes
+}
+
+/// One link's whole bytes.
+fn link_bytes(random: &mut Random, link: Link, sent: &[Meant], faults: Faults) -> Vec<u8> {
+    let mut bytes = Vec::new();
+    for meant in sent {
+        if happens(random, faults.lost) {
+            continue;
+        }
+        bytes.extend(on_link(random, link, meant, faults));
+        while happens(random, faults.repeated) {
+            bytes.extend(on_link(random, link, meant, faults));
+        }
+    }
+    if random.once_in(3) {
+        bytes.truncate(random.below(bytes.len() as u64 + 1) as usize);
+    }
+    if random.once_in(8) {
+        let tail = random.pick(&[1, 2, 9, 10, 30]);
+        bytes.extend(random.bytes(tail));
+    }
+    bytes
+}
+
+pub struct Pair {
+    pub role: Role,
+    pub strict: bool,
+    pub normal: Vec<u8>,
+    pub redundant: Vec<u8>,
+}
+
+/// One of the pairs: valid, damaged, lossy, lagging, or all at once.
+pub fn pair(random: &mut Random) -> Pair {
+    let faults = Faults {
+        link: random.pick(&[0, 100, 30, 8, 4]),
+        dropped: random.pick(&[0, 30, 8, 3]),
+        lost: random.pick(&[0, 0, 20, 4]),
+        repeated: random.pick(&[0, 0, 20, 4]),
+    };
+    let (role, strict) = (some_role(random), random.once_in(2));
+    let count = random.pick(&[0, 1, 3, 10, 40, 150, 400]);
+    let sent = conversation(random, role, count, faults);
+    // A lagging link misses the end of what was sent, or all of it.
+    let lag = |random: &mut Random| match random.below(4) {
+        0 => random.below(sent.len() as u64 + 1) as usize,
+        _ => sent.len(),
+    };
+    let (normal_seen, redundant_seen) = (lag(random), lag(random));
+    Pair {
+        role,
+        strict,
+        normal: link_bytes(random, Link::Normal, &sent[..normal_seen], faults),
+        redundant: link_bytes(random, Link::Redundant, &sent[..redundant_seen], faults),
+    }
+}
+
+/// A long pair whose numbers pass 65535 one by one, the redundant link a few packets ahead.
+fn wrapping_pair(random: &mut Random, strict: bool) -> Pair {
+    let role = some_role(random);
+    let mut sent = vec![first_meant(random, role)];
+    for number in 1..65_600_u32 {
+        let length = random.pick(&[0, 0, 0, 1, 5]);
+        sent.push(Meant { kind: packet::DATA, number: number as u16, data: random.bytes(length) });
+    }
+    let bytes = |random: &mut Random, link: Link, sent: &[Meant]| {
+        let none = Faults { link: 0, dropped: 0, lost: 0, repeated: 0 };
+        sent.iter().flat_map(|meant| on_link(random, link, meant, none)).collect()
+    };
+    Pair { role, strict, normal: bytes(random, Link::Normal, &sent[..65_590]), redundant: bytes(random, Link::Redundant, &sent) }
+}
+
+fn role_name(role: Role) -> &'static str {
+    match role {
+        Role::Initiator => "initiator",
+        Role::Responder => "responder",
+    }
+}
+
+fn strict_name(strict: bool) -> &'static str {
+    if strict { "strict" } else { "loose" }
+}
+
+/// Writes the pairs NAME.normal and NAME.redundant and the file `list` with lines NAME role strict;
+/// returns how often each answer occurred. The first two pairs are the long ones.
+pub fn write_streams(seed: u64, count: usize, folder: &Path) -> std::io::Result<BTreeMap<String, usize>> {
+    let mut random = Random::new(seed);
+    let mut answers = BTreeMap::new();
+    let mut list = String::new();
+    std::fs::create_dir_all(folder)?;
+    for at in 0..count {
+        let made = match at {
+            0 => wrapping_pair(&mut random, true),
+            1 => wrapping_pair(&mut random, false),
+            _ => pair(&mut random),
+        };
+        let name = format!("{at:05}");
+        std::fs::write(folder.join(format!("{name}.normal")), &made.normal)?;
+        std::fs::write(folder.join(format!("{name}.redundant")), &made.redundant)?;
+        list.push_str(&format!("{name} {} {}\n", role_name(made.role), strict_name(made.strict)));
+        for line in links::cut(made.role, made.strict, &made.normal, &made.redundant).lines().skip(1) {
+            if let Some(answer) = line.split(' ').nth(1).filter(|_| !line.starts_with("end")) {
+                *answers.entry(answer.to_string()).or_insert(0) += 1;
+            }
+        }
+    }
+    std::fs::write(folder.join("list"), list)?;
+    Ok(answers)
+}
+
+/// Bytes in hex; none at all is `-`.
+pub fn hex(bytes: &[u8]) -> String {
+    if bytes.is_empty() {
+        return String::from("-");
+    }
+    bytes.iter().map(|byte| format!("{byte:02X}")).collect()
+}
+
+pub const STEPS_HEADER: &str = "normal_up redundant_up role strict first last normal_place normal redundant_place redundant = \
+     answer link used version application type number data normal_up redundant_up first last";
+
+/// A place: mostly where the packets begin, sometimes elsewhere or past the end.
+fn some_place(random: &mut Random, begins: usize, length: usize) -> usize {
+    match random.below(12) {
+        0 => length,
+        1 => length + random.pick(&[1, 2, 1000, 1 << 31]),
+        2 => random.below(length as u64 + 1) as usize,
+        _ => begins,
+    }
+}
+
+/// A link's short bytes with junk before the place where the packets begin.
+fn short_link(random: &mut Random, link: Link, sent: &[Meant], faults: Faults) -> (Vec<u8>, usize) {
+    let junk = random.pick(&[0, 0, 1, 7, 300]);
+    let mut bytes = random.bytes(junk);
+    bytes.extend(link_bytes(random, link, sent, faults));
+    let place = some_place(random, junk, bytes.len());
+    (bytes, place)
+}
+
+/// A state near the packet that stands first: every d on both sides of each bound.
+fn some_state(random: &mut Random, role: Role, meant: &Meant) -> State {
+    let d = random.pick(&[0, 1, 1, 1, 2, 3, 32766, 32767, 32768, 32769, 65535]);
+    State {
+        normal_up: !random.once_in(4),
+        redundant_up: !random.once_in(4),
+        role,
+        strict: random.once_in(2),
+        first: random.once_in(3),
+        last: if random.once_in(10) { random.number() } else { meant.number.wrapping_sub(d) },
+    }
+}
+
+/// A single step at any state and places.
+pub struct Trial {
+    state: State,
+    normal: Vec<u8>,
+    normal_place: usize,
+    redundant: Vec<u8>,
+    redundant_place: usize,
+}
+
+impl Trial {
+    fn step(&self) -> (State, links::Step<'_>) {
+        links::step(self.state, &self.normal, self.normal_place, &self.redundant, self.redundant_place)
+    }
+
+    /// What goes in, `=`, what comes back, for a person.
+    pub fn line(&self) -> String {
+        let (after, step) = self.step();
+        let (state, taken) = (self.state, taken_of(&step));
+        let given = format!(
+            "{} {} {} {} {} {} {} {} {} {}",
+            u8::from(state.normal_up), u8::from(state.redundant_up), role_name(state.role), strict_name(state.strict), u8::from(state.first),
+            state.last, self.normal_place, hex(&self.normal), self.redundant_place, hex(&self.redundant)
+        );
+        format!(
+            "{given} = {} {} {} {} {} {} {} {} {}",
+            step.answer, step.link.name(), step.used, taken.version, taken.application, taken.kind, taken.number, hex(taken.data), state_text(&after)
+        )
+    }
+
+    /// The step in the file that the Rattle program `steps` reads: flags 1 (1 normal link up, 2 redundant link up, 4 responder, 8 strict,
+    /// 16 first packet), last number 2, normal place 4, redundant place 4, normal size 2, redundant size 2, the bytes of both links.
+    pub fn bytes(&self) -> Vec<u8> {
+        let state = self.state;
+        let flags = [state.normal_up, state.redundant_up, state.role == Role::Responder, state.strict, state.first];
+        let mut bytes = vec![flags.iter().enumerate().map(|(bit, set)| u8::from(*set) << bit).sum()];
+        bytes.extend(state.last.to_be_bytes());
+        bytes.extend((self.normal_place as u32).to_be_bytes());
+        bytes.extend((self.redundant_place as u32).to_be_bytes());
+        bytes.extend((self.normal.len() as u16).to_be_bytes());
+        bytes.extend((self.redundant.len() as u16).to_be_bytes());
+        bytes.extend(&self.normal);
+        bytes.extend(&self.redundant);
+        bytes
+    }
+
+    /// The two lines that `steps` prints: that of `cut`, then the state after the step, version, application type and where the data begins.
+    pub fn printed(&self) -> String {
+        let (after, step) = self.step();
+        let taken = taken_of(&step);
+        let place = match step.link {
+            Link::Normal => self.normal_place,
+            Link::Redundant => self.redundant_place,
+        };
+        let start = if step.answer == 0 { place + packet::HEADER } else { 0 };
+        let first = format!("{} {} {} {} {} {}", step.link.name(), step.answer, step.used, taken.kind, taken.number, taken.data.len());
+        format!("{first}\nstate {} {} {} {start}", state_text(&after), taken.version, taken.application)
+    }
+}
+
+fn taken_of<'a>(step: &links::Step<'a>) -> Packet<'a> {
+    step.packet.unwrap_or(Packet { version: 0, application: 0, number: 0, kind: 0, data: &[] })
+}
+
+fn state_text(state: &State) -> String {
+    format!("{} {} {} {}", u8::from(state.normal_up), u8::from(state.redundant_up), u8::from(state.first), state.last)
+}
+
+fn some_trial(random: &mut Random) -> Trial {
+    let faults = Faults { link: random.pick(&[0, 6]), dropped: random.pick(&[0, 3]), lost: 0, repeated: 0 };
+    let role = some_role(random);
+    let mut sent = conversation(random, role, 2, faults);
+    let begins = random.below(sent.len() as u64) as usize;
+    sent.drain(..begins);
+    let state = some_state(random, role, &sent[0]);
+    let (normal, normal_place) = short_link(random, Link::Normal, &sent, faults);
+    let (redundant, redundant_place) = short_link(random, Link::Redundant, &sent, faults);
+    Trial { state, normal, normal_place, redundant, redundant_place }
+}
+
+/// So many random steps.
+pub fn steps(seed: u64, count: usize) -> impl Iterator<Item = Trial> {
+    let mut random = Random::new(seed);
+    (0..count).map(move |_| some_trial(&mut random))
+}
