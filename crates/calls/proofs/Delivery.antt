@@ -1,13 +1,13 @@
 -- What a receive delivers: the message's bytes from 15 on with a 0 or a 204 of an open connection, and nothing with any other answer.
 -- Assumes nothing.
-use Prim.Native.Nat.{ℕ, _+_, _-_, _≤_}
-use mathlib.Core.Path.{_≡_, refl, sym, ap, subst, _∙_}
-use mathlib.Core.Bool.{Bool, true, false, not, _&&_, _||_}
+use Prim.Native.Nat.{ℕ, _+_}
+use mathlib.Core.Path.{_≡_, refl}
+use mathlib.Core.Bool.{Bool, true, false, _&&_, _||_}
 use mathlib.Core.List.{List, []}
 use native.Mathlib.Omega.{arith}
 use borrow.Author.Tests.{eqb-true, not-true}
-use lib.Dec.{T, leb, eqb}
-use lib.ListN.{length, drop, length-drop}
+use lib.Dec.{leb, eqb}
+use lib.ListN.{drop, length-drop}
 use lib.Seq.{take-all}
 use Rattle.rules.specs.Rows.{when_answer_else_}
 use Rattle.clock.specs.declared.Count.{Count}
@@ -23,7 +23,7 @@ use Rattle.judging.specs.Judging.{startTaken, answ1Taken, answ2Taken, estTaken,
 use Rattle.calls.specs.Calls.{receiveRefusal, receiveOutcome, deliveredOf}
 use Rattle.calls.specs.Promises.{deliversTo}
 use Rattle.calls.proofs.Replies.{both}
-use Rattle.calls.proofs.Promises.{Fault, Leaves, receive-by, receive-refusal-by}
+use Rattle.calls.proofs.Promises.{Fault, receive-by, receive-refusal-by}
 use Rattle.calls.proofs.Opening.{Expects, expected-is}
 
 module _ (c : Connection) (now : Count) (message : List ℕ) where

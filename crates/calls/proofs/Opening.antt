@@ -2,11 +2,11 @@
 -- Assumes nothing.
 use Prim.Native.Nat.{ℕ, suc, _+_, _≤_}
 use mathlib.Core.Path.{_≡_, refl, sym, ap, subst, _∙_}
-use mathlib.Core.Bool.{Bool, true, false, not, _&&_, _||_}
+use mathlib.Core.Bool.{Bool, true, false, not, _&&_}
 use mathlib.Core.List.{List, [], _∷_}
 use native.Mathlib.Omega.{arith}
 use borrow.Author.Tests.{eqb-true, eqb-false, le-leb, not-true, not-false}
-use lib.Dec.{T, ltb, leb, eqb, lit<}
+use lib.Dec.{T, leb, eqb, lit<}
 use lib.ListN.{length}
 use Rattle.rules.specs.Rows.{when_answer_else_}
 use Rattle.clock.specs.declared.Count.{Count}
@@ -27,10 +27,9 @@ use Rattle.connection.specs.Connection.{
   clocked,
   heard,
 }
-use Rattle.judging.specs.declared.Expectation.{Expectation}
-use Rattle.judging.specs.declared.Expectation.the-variants.{Expected, Unexpected, Released}
+use Rattle.judging.specs.declared.Expectation.the-variants.{Expected}
 use Rattle.judging.specs.declared.Reply.{Reply}
-use Rattle.judging.specs.declared.Reply.the-variants.{Nothing, Send}
+use Rattle.judging.specs.declared.Reply.the-variants.{Send}
 use Rattle.judging.specs.declared.Outcome.{Outcome}
 use Rattle.judging.specs.Judging.{
   expectationOf,
@@ -50,11 +49,9 @@ use Rattle.judging.specs.Judging.{
 }
 use Rattle.calls.specs.Calls.{
   closeRefusal,
-  tickRefusal,
   receiveRefusal,
   sendRefusal,
   beginRefusal,
-  expired,
   receiveOutcome,
   tickOutcome,
   closeOutcome,
@@ -63,7 +60,7 @@ use Rattle.calls.specs.Calls.{
 }
 use Rattle.calls.specs.Opening.{withSent, withTaken, logAfter, Run, Exchange, FiveMessages}
 use Rattle.calls.proofs.Replies.{both, row-off}
-use Rattle.calls.proofs.Promises.{Fault, Leaves, receive-by, tick-by}
+use Rattle.calls.proofs.Promises.{receive-by, tick-by}
 
 -- the phases, and the type that each expects
 pub data Expects (phase type : ℕ) : Type 0 where

@@ -1,13 +1,12 @@
 -- The promises of the five calls on one record.
 -- Assumes nothing.
-use Prim.Native.Nat.{ℕ, _+_, _≤_, _<_}
-use mathlib.Core.Path.{_≡_, refl, sym, ap, subst, _∙_}
+use Prim.Native.Nat.{ℕ, _+_}
+use mathlib.Core.Path.{_≡_, refl, sym, subst, _∙_}
 use mathlib.Core.Bool.{Bool, true, false, not, _&&_, _||_}
-use mathlib.Core.List.{List, [], _∷_, _++_}
+use mathlib.Core.List.{List}
 use native.Mathlib.Omega.{arith}
 use borrow.Author.Tests.{not-true}
 use lib.Dec.{T, ltb, leb, eqb}
-use Rattle.rules.specs.Rows.{when_answer_else_}
 use Rattle.clock.specs.Clock.{goesBack, waitOf}
 use Rattle.clock.specs.declared.Count.{Count}
 use Rattle.message.specs.Read.{parsedOf}
@@ -31,7 +30,6 @@ use Rattle.connection.specs.Connection.{
 }
 use Rattle.judging.specs.declared.Expectation.{Expectation}
 use Rattle.judging.specs.declared.Expectation.the-variants.{Expected, Unexpected, Released}
-use Rattle.judging.specs.declared.Reply.the-variants.{Nothing, Send}
 use Rattle.judging.specs.declared.Outcome.{Outcome}
 use Rattle.judging.specs.Judging.{
   keeps,
@@ -77,11 +75,6 @@ use Rattle.calls.specs.Calls.{
 }
 use Rattle.calls.specs.Promises.{
   _among_,
-  beginRefuses,
-  receiveRefuses,
-  sendRefuses,
-  tickRefuses,
-  closeRefuses,
   beginNumbers,
   receiveNumbers,
   sendNumbers,

@@ -1,11 +1,10 @@
 -- A valid record stays valid, and a released one is all zero: so our own calls never lead to the record's 101.
 -- Assumes nothing.
-use Prim.Native.Nat.{ℕ, _+_, _≤_, _<_}
+use Prim.Native.Nat.{ℕ, _+_, _≤_}
 use mathlib.Core.Path.{_≡_, refl, sym, subst, _∙_}
 use mathlib.Core.Bool.{Bool, true, false, not, _&&_, _||_}
 use mathlib.Core.List.{List}
-use mathlib.Core.Logic.{_⊎_, inl, inr}
-use native.Mathlib.Omega.{arith}
+use mathlib.Core.Logic.{inl, inr}
 use borrow.Author.Tests.{ltb-false, lt-leb, eq-eqb}
 use lib.Dec.{T, ltb, leb, eqb, lit<}
 use Rattle.rules.specs.Rows.{when_answer_else_}

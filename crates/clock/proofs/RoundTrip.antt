@@ -11,7 +11,6 @@ use lib.Signed.{mag}
 use Rattle.rules.specs.Rows.{when_answer_else_}
 use Rattle.clock.specs.Clock.{signMagnitudeOf, offsetRead}
 use Rattle.clock.specs.declared.Offset.{Offset}
-use Rattle.clock.specs.declared.OffsetRead.{OffsetRead}
 use Rattle.clock.specs.declared.OffsetRead.the-variants.{Is, Malformed}
 use Rattle.clock.proofs.Cases.{signed-as, offset}
 

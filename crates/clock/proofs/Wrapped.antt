@@ -6,7 +6,7 @@ use borrow.Author.Tests.{ltb-true, lt-ltb}
 use mathlib.Core.Bool.{Bool, true, false, not}
 use native.Mathlib.Omega.{arith}
 use lib.Dec.{T, ltb, ltb→lt, nltb→le}
-use lib.IntN.{ℤ, pos, negsuc, negℤ, natAbs, subℕ, _+ℤ_, _-ℤ_, +ℤ-idl, pos-ne-negsuc}
+use lib.IntN.{ℤ, pos, negsuc, negℤ, natAbs, _+ℤ_, _-ℤ_, +ℤ-idl, pos-ne-negsuc}
 use lib.Signed.{mag, ltZ}
 use mir.Syntax.{Width, w32, w64}
 use mir.Val.{toZ, ofZ, sel, SFits}

@@ -1,6 +1,6 @@
 -- Counts, offsets and ages, over the integers.
 use Prim.Native.Nat.{ℕ, suc, _^_}
-use mathlib.Core.Bool.{Bool, true, false, _&&_}
+use mathlib.Core.Bool.{Bool, _&&_}
 use lib.Dec.{ltb, leb, eqb}
 use lib.IntN.{ℤ, pos, negsuc, negℤ, _+ℤ_, _-ℤ_}
 use lib.Signed.{ltZ}
@@ -9,7 +9,6 @@ use Rattle.rules.specs.Rows.{when_answer_else_}
 use Rattle.clock.specs.declared.Verdict.{Verdict}
 use Rattle.clock.specs.declared.Verdict.the-variants.{Future, Late, Fresh}
 use Rattle.clock.specs.declared.SignMagnitude.{SignMagnitude}
-use Rattle.clock.specs.declared.Offset.{Offset}
 use Rattle.clock.specs.declared.OffsetRead.{OffsetRead}
 use Rattle.clock.specs.declared.OffsetRead.the-variants.{Is, Malformed}
 

@@ -1,8 +1,10 @@
 // cut initiator|responder strict|loose NORMAL REDUNDANT: takes packets from the recorded bytes of two links and prints a line for each step.
 ghost use mathlib.Core.Path.{_≡_};
+ghost use mathlib.Core.Bool.{false};
 ghost use Prim.Native.Nat.{_+_, _^_, _≤_, _<_};
 ghost use lib.ListN.{length};
-ghost use Rattle.window.specs.Window.{Within};
+ghost use Rattle.window.specs.Window.{Within, lowOf};
+ghost use Rattle.links.specs.Promises.{mostBytes};
 ghost use Rattle.recording.specs.Printed.{mostLine};
 ghost use Rattle.recording.specs.Progress.{Lies};
 use libc::STDERR_FILENO;
@@ -11,9 +13,6 @@ use recording::Progress;
 use text::Chosen;
 use window::Refilled;
 use window::Window;
-
-// The most bytes of a packet, which are the most that one step looks at: a window with fewer is refilled.
-const MOST_PACKET: usize = 1034;
 
 // A place in the out buffer with room for a line, and whether writing what it held failed.
 struct Place {
@@ -37,10 +36,11 @@ struct Turned {
 
 // Refills a window that is low, or says why its file can't be read.
 fn topped_up(fd: i32, name: &[u8], buffer: &mut [u8], window: Window) -> Refilled
-    requires { ⌜ Within window (length (now buffer)) ⌝ }
+    requires { ⌜ Within window (length (now buffer)) × (mostBytes ≤ length (now buffer)) ⌝ }
     ensures { λ r. ⌜ Within (r .window) (length (now (buffer .entry))) ⌝ }
+    ensures { λ r. ⌜ (r .failed ≡ false → lowOf mostBytes (r .window) ≡ false) ⌝ }
 {
-    if !window.low(MOST_PACKET) {
+    if !window.low(recording::MOST_PACKET) {
         return Refilled {
             window,
             failed: false,
@@ -64,14 +64,26 @@ fn both_topped_up(
     p: Progress,
 ) -> Windows
     requires { ⌜ Lies p (length (now normal)) (length (now redundant)) ⌝ }
+    requires { ⌜ (mostBytes ≤ length (now normal)) × (mostBytes ≤ length (now redundant)) ⌝ }
     ensures { λ r. ⌜ Within (r .normal) (length (now (normal .entry))) × Within (r .redundant) (length (now (redundant .entry))) ⌝ }
+    ensures { λ r. ⌜ (r .failed ≡ false → (lowOf mostBytes (r .normal) ≡ false) × (lowOf mostBytes (r .redundant) ≡ false)) ⌝ }
 {
     let first = topped_up(normal_fd, normal_name, normal, p.normal);
-    let second = topped_up(redundant_fd, redundant_name, redundant, p.redundant);
+    let normal_window = first.window;
+    let unchanged = p.redundant;
+    if first.failed {
+        return Windows {
+            normal: normal_window,
+            redundant: unchanged,
+            failed: true,
+        };
+    }
+    let second = topped_up(redundant_fd, redundant_name, redundant, unchanged);
+    let redundant_window = second.window;
     Windows {
-        normal: first.window,
-        redundant: second.window,
-        failed: first.failed || second.failed,
+        normal: normal_window,
+        redundant: redundant_window,
+        failed: second.failed,
     }
 }
 
@@ -126,12 +138,20 @@ fn turn(
     p: Progress,
 ) -> Turned
     requires { ⌜ Lies p (length (now normal)) (length (now redundant)) ⌝ }
+    requires { ⌜ (mostBytes ≤ length (now normal)) × (mostBytes ≤ length (now redundant)) ⌝ }
     requires { ⌜ (at ≤ length (now out)) × (mostLine ≤ length (now out)) ⌝ }
     requires { ⌜ p .«handed_up» + 1 < 2 ^ 64 ⌝ }
     ensures { λ r. ⌜ Lies (r .progress) (length (now (normal .entry))) (length (now (redundant .entry))) ⌝ }
     ensures { λ r. ⌜ (r .at ≤ length (now (out .entry))) × (r .progress .«handed_up» ≤ p .«handed_up» + 1) ⌝ }
 {
     let place = room(out, at);
+    if place.failed {
+        return Turned {
+            progress: p,
+            at: place.at,
+            failed: true,
+        };
+    }
     let windows = both_topped_up(
         normal_fd,
         normal_name,
@@ -151,7 +171,7 @@ fn turn(
         handed_up: p.handed_up,
         last: p.last,
     };
-    if place.failed || windows.failed {
+    if windows.failed {
         return Turned {
             progress: lent,
             at: place.at,
@@ -180,6 +200,7 @@ fn cut_links(
     place: usize,
     state: State,
 )
+    requires { ⌜ (mostBytes ≤ length (now normal)) × (mostBytes ≤ length (now redundant)) ⌝ }
     requires { ⌜ (place ≤ length (now out)) × (mostLine ≤ length (now out)) ⌝ }
 {
     let mut at = place;
@@ -227,6 +248,7 @@ fn print_all(
     out: &mut [u8],
     state: State,
 )
+    requires { ⌜ (mostBytes ≤ length (now normal)) × (mostBytes ≤ length (now redundant)) ⌝ }
     requires { ⌜ mostLine ≤ length (now out) ⌝ }
 {
     let at = recording::put_heading(out, 0);

@@ -17,7 +17,6 @@ use Rattle.connection.specs.declared.Connection.{Connection}
 use Rattle.connection.specs.Connection.{initiatorWaitsFor2, initiatorWaitsFor4, responderWaitsFor1, responderWaitsFor3, responderWaitsFor5, opened, released, clocked, counted, heard, sent, waiting, withOffsets}
 use Rattle.judging.specs.declared.Expectation.{Expectation}
 use Rattle.judging.specs.declared.Expectation.the-variants.{Expected, Unexpected, Released}
-use Rattle.judging.specs.declared.Reply.{Reply}
 use Rattle.judging.specs.declared.Reply.the-variants.{Nothing, Send}
 use Rattle.judging.specs.declared.Outcome.{Outcome}
 
@@ -114,6 +113,14 @@ faultOf c now h t =
 abbrev pub offsetBetween : Count → Count → Offset
 offsetBetween own peer = record { 0 = centred (pos (own .0) -ℤ pos (peer .0)) }
 
+-- min: our message's stamp minus its reported arrival (I1-R1, R2-I2)
+abbrev pub minOf : Connection → Header → Offset
+minOf c h = offsetBetween (c .«wait_start») (h .arrival)
+
+-- max: the arrival of the peer's message minus its stamp (I2-R2, R3-I3)
+abbrev pub maxOf : Count → Header → Offset
+maxOf now h = offsetBetween now (h .stamp)
+
 -- a reply of ours is stamped with the now of the call that took the message, and echoes its stamp
 abbrev pub replyHeader : ℕ → Connection → Count → Header → Header
 replyHeader type c now h = record { kind = type; number = c .«own_number»; stamp = now; «last_peer_stamp» = h .stamp; arrival = now }
@@ -134,13 +141,13 @@ startTaken c now h = sends (replyHeader 2 c now h) (periodTail (c .period)) (ans
 unfoldable pub answ1Taken : Connection → Count → Header → Outcome
 answ1Taken c now h =
     sends (replyHeader 3 c now h) emptyTail
-    (withOffsets (answered c now h initiatorWaitsFor4) (offsetBetween (c .«wait_start») (h .arrival)) (offsetBetween now (h .stamp)))
+    (withOffsets (answered c now h initiatorWaitsFor4) (minOf c h) (maxOf now h))
 
 -- OffsetAnsw2, arrived R3: min = R2-I2, max = R3-I3; OffsetEst carries them
 unfoldable pub answ2Taken : Connection → Count → Header → Outcome
 answ2Taken c now h =
-    sends (replyHeader 4 c now h) (offsetsTail (offsetBetween (c .«wait_start») (h .arrival)) (offsetBetween now (h .stamp)))
-    (withOffsets (answered c now h responderWaitsFor5) (offsetBetween (c .«wait_start») (h .arrival)) (offsetBetween now (h .stamp)))
+    sends (replyHeader 4 c now h) (offsetsTail (minOf c h) (maxOf now h))
+    (withOffsets (answered c now h responderWaitsFor5) (minOf c h) (maxOf now h))
 
 -- OffsetEst: the initiator sends OffsetEnd 1 and is open
 unfoldable pub estTaken : Connection → Count → Header → Outcome

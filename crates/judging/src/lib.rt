@@ -15,6 +15,8 @@ ghost use Rattle.judging.specs.Judging.{
   checkFailed,
   ageNumber,
   faultOf,
+  minOf,
+  maxOf,
   replyHeader,
   answered,
   startTaken,
@@ -302,29 +304,38 @@ fn start_taken(c: Connection, now: Count, h: Header) -> Outcome
     )
 }
 
-fn answ1_taken(c: Connection, now: Count, h: Header) -> Outcome
-    ensures { λ r. ⌜ r ≡ answ1Taken c now h ⌝ }
+// Our message's stamp minus its reported arrival.
+fn min_of(c: Connection, h: Header) -> Offset
+    ensures { λ r. ⌜ r ≡ minOf c h ⌝ }
 {
     let sent = c.wait_start;
     let reported = h.arrival;
+    Offset::between(sent, reported)
+}
+
+// The arrival of the peer's message minus its stamp.
+fn max_of(now: Count, h: Header) -> Offset
+    ensures { λ r. ⌜ r ≡ maxOf now h ⌝ }
+{
     let stamp = h.stamp;
-    let min = Offset::between(sent, reported);
-    let max = Offset::between(now, stamp);
+    Offset::between(now, stamp)
+}
+
+fn answ1_taken(c: Connection, now: Count, h: Header) -> Outcome
+    ensures { λ r. ⌜ r ≡ answ1Taken c now h ⌝ }
+{
     sending(
         reply_header(3, c, now, h),
         Tail::empty(),
-        with_answer(c, now, h, 2).with_offsets(min, max),
+        with_answer(c, now, h, 2).with_offsets(min_of(c, h), max_of(now, h)),
     )
 }
 
 fn answ2_taken(c: Connection, now: Count, h: Header) -> Outcome
     ensures { λ r. ⌜ r ≡ answ2Taken c now h ⌝ }
 {
-    let sent = c.wait_start;
-    let reported = h.arrival;
-    let stamp = h.stamp;
-    let min = Offset::between(sent, reported);
-    let max = Offset::between(now, stamp);
+    let min = min_of(c, h);
+    let max = max_of(now, h);
     sending(
         reply_header(4, c, now, h),
         Tail::with_offsets(min, max),

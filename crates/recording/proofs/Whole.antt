@@ -10,15 +10,15 @@ use borrow.Author.Tests.{ltb-false, le-ltb}
 use lib.Dec.{ltb}
 use lib.ListN.{length, take, drop, length-drop, take-append-drop}
 use lib.Seq.{length-take-le, take-nil, take-take, drop-drop, drop-append-le}
-use Rattle.window.specs.Window.{Within, leftOf, unread, lowOf, usedOf, RefilledFrom}
+use Rattle.window.specs.Window.{Within, leftOf, unread, lowOf, usedOf}
 use Rattle.window.specs.declared.Window.{Window}
 use Rattle.window.specs.declared.Refilled.{Refilled}
-use Rattle.links.specs.Promises.{mostBytes, seenFrom, placeless, Alike}
+use Rattle.links.specs.Promises.{mostBytes, seenFrom}
 use Rattle.links.specs.declared.Taken.{Taken}
 use Rattle.links.proofs.Alike.{sees-no-more-than-a-packet, buffer-seen-as-file}
 use Rattle.recording.specs.Printed.{lineOf}
-use Rattle.recording.specs.Progress.{takenAt, steppedOf, UsesNoMore, Lies}
-use Rattle.recording.specs.Whole.{Follows, whole, after, StepsAsWhole, wasRead, RefillFollows, RefillNotLow}
+use Rattle.recording.specs.Progress.{takenAt, steppedOf}
+use Rattle.recording.specs.Whole.{Follows, StepsAsWhole, RefillFollows, RefillNotLow}
 use Rattle.recording.specs.declared.Progress.{Progress}
 use Rattle.recording.proofs.Windows.{uses}
 
@@ -119,7 +119,8 @@ module _ (file : List ℕ) (place : ℕ) (before : List ℕ) (w : Window) (after
         all = ended;
       }
 
-  pub refill-not-low : RefillNotLow file place before w afterwards r
+module _ (before : List ℕ) (w : Window) (afterwards : List ℕ) (r : Refilled) where
+  pub refill-not-low : RefillNotLow before w afterwards r
   unfolding lowOf
   refill-not-low refilled room ok = by (r .window .ended) refl
     where

@@ -1,15 +1,13 @@
 -- How far two recorded links are cut: a step over their windows, with what it uses up, counts and prints.
 -- Assumes nothing.
-use Prim.Native.Nat.{ℕ, _+_, _≤_, _<_}
+use Prim.Native.Nat.{ℕ, _+_, _≤_}
 use mathlib.Core.Path.{_≡_}
 use mathlib.Core.Bool.{Bool, true, false, cond, _||_}
 use mathlib.Core.List.{List}
 use lib.Dec.{eqb}
-use lib.ListN.{length, take, drop}
-use Rattle.window.specs.Window.{emptyWindow, Within, usedOf}
-use Rattle.window.specs.declared.Window.{Window}
+use lib.ListN.{take}
+use Rattle.window.specs.Window.{Within, usedOf}
 use Rattle.links.specs.Table.{takenOf}
-use Rattle.links.specs.declared.State.{State}
 use Rattle.links.specs.declared.Taken.{Taken}
 use Rattle.recording.specs.declared.Progress.{Progress}
 

@@ -2,7 +2,7 @@
 -- Assumes nothing.
 use Prim.Native.Nat.{ℕ, _+_, _≤_}
 use mathlib.Core.Path.{_≡_}
-use mathlib.Core.Bool.{Bool, true, false, cond}
+use mathlib.Core.Bool.{true, false, cond}
 use mathlib.Core.List.{List, [], _++_}
 use lib.ListN.{length, drop}
 use Rattle.window.specs.Window.{leftOf, unread, lowOf, RefilledFrom}
@@ -54,6 +54,7 @@ module _ (file : List ℕ) (place : ℕ) (before : List ℕ) (w : Window) (after
       → f .rest ≡ wasRead ++ rest → (r .window .ended ≡ true → rest ≡ [])
       → Follows file place afterwards (r .window)
 
-  -- unless a read failed, the window is not low after it
+module _ (before : List ℕ) (w : Window) (afterwards : List ℕ) (r : Refilled) where
+  -- Unless a read failed, a window is not low after a refill of a buffer that holds a packet.
   abbrev pub RefillNotLow : Type 0
   RefillNotLow = RefilledFrom before w afterwards r → mostBytes ≤ length before → r .failed ≡ false → lowOf mostBytes (r .window) ≡ false

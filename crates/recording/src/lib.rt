@@ -4,6 +4,8 @@ ghost use mathlib.Core.Bool.{true, false};
 ghost use Prim.Native.Nat.{_+_, _^_, _≤_, _<_};
 ghost use lib.ListN.{length};
 ghost use Rattle.text.specs.Text.{PutAt, mostDigits};
+ghost use Rattle.window.specs.Window.{lowOf};
+ghost use Rattle.links.specs.Promises.{mostBytes};
 ghost use Rattle.recording.specs.Printed.{heading, linkName, numberText, handedUpText, lineOf, endOf, mostLine};
 ghost use Rattle.recording.specs.Progress.{takenAt, lastAnswer, countedOf, steppedOf, UsesNoMore, Lies};
 use links::State;
@@ -12,6 +14,9 @@ use window::Window;
 
 // The most bytes of a line.
 pub const MOST_LINE: usize = 115;
+
+// The most bytes of a packet, which are the most that one step looks at: a window with fewer is low.
+pub const MOST_PACKET: usize = 1034;
 
 // The windows of the two links, the state of the steps, how many packets were handed up, and whether the last step answered 301 or 308.
 pub struct Progress {
@@ -162,7 +167,7 @@ fn stepped(p: Progress, taken: Taken) -> Progress
     }
 }
 
-// One step, with its line put into the out buffer.
+// One step over windows that are not low, so that it is the step over the whole files (proofs/Whole); its line is put into the out buffer.
 pub fn advance<'a>(
     normal: &'a [u8],
     redundant: &'a [u8],
@@ -172,6 +177,7 @@ pub fn advance<'a>(
 ) -> Advanced
     requires { ⌜ Lies p (length (now normal)) (length (now redundant)) ⌝ }
     requires { ⌜ at + mostLine ≤ length (now out) ⌝ }
+    requires { ⌜ (lowOf mostBytes (p .normal) ≡ false) × (lowOf mostBytes (p .redundant) ≡ false) ⌝ }
     requires { ⌜ p .«handed_up» + 1 < 2 ^ 64 ⌝ }
     ensures { λ r. ⌜ r .progress ≡ steppedOf (takenAt (now (normal .entry)) (now (redundant .entry)) p) p ⌝ }
     ensures { λ r. ⌜ PutAt (now (out .entry)) at (lineOf (takenAt (now (normal .entry)) (now (redundant .entry)) p)) (now (out .exit)) (r .next) ⌝ }

@@ -1,7 +1,6 @@
 // steps FILE: takes the single steps of a file, each at a state and places of its own, and prints two lines for each. It is there to compare single
 // steps with the independent program, which writes such files. A step in the file: flags 1 (1 normal link up, 2 redundant link up, 4 responder,
 // 8 strict, 16 first packet), last number 2, normal place 4, redundant place 4, normal size 2, redundant size 2, the bytes of both links.
-ghost use mathlib.Core.Path.{_≡_};
 ghost use Prim.Native.Nat.{_+_, _≤_, _<_};
 ghost use lib.ListN.{length};
 ghost use Rattle.window.specs.Window.{Within};

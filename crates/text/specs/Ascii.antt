@@ -1,7 +1,7 @@
 -- Words in ASCII: the codes of a quoted text's characters.
 -- Assumes nothing.
 use Prim.Native.Nat.{ℕ}
-use Prim.Native.Char.{Char, code}
+use Prim.Native.Char.{code}
 use Prim.Native.String.{String}
 use Prim.Native.String as string
 use mathlib.Core.List.{List, [], _∷_}

@@ -4,7 +4,7 @@ ghost use mathlib.Core.Bool.{true, false};
 ghost use Prim.Native.Nat.{_+_, _-_, _≤_};
 ghost use lib.ListN.{length, take, drop};
 ghost use lib.Seq.{sets};
-ghost use Rattle.window.specs.Window.{emptyWindow, Within, leftOf, unread, lowOf, usedOf, FilledFrom, RefilledFrom};
+ghost use Rattle.window.specs.Window.{emptyWindow, Within, lowOf, usedOf, FilledFrom, RefilledFrom};
 
 // The bytes of the buffer from `from` to `to` are read and not used up; `ended` says that the file has no more.
 pub struct Window {

@@ -31,16 +31,20 @@ loop-holds c =
       refl,
       refl,
       (none-within _ _ (c .before .empty .ensures), none-within _ _ (c .empty2 .ensures)),
-      start .pre .0,
+      start .pre .1 .0,
       omega arith,
     )
 
 turn-requires : tie.Need-turn-requires Inv-loop μ-loop
 turn-requires c κs =
     let inv = c .before .before .before .before .loop .inv in
+    let pre = c .before .before .before .before .before .before .before .before .before .before .before .before .pre in
     let lies = inv .3 in (
       ((lies .0 .0, omega (arith, lies .0 .1, inv .0)), (lies .1 .0, omega (arith, lies .1 .1, inv .1))),
-      ((omega (arith, inv .4, inv .2), omega (arith, inv .2, c .before .before .before .before .before .before .before .before .before .before .before .before .pre .1)), omega (arith, inv .5)),
+      (
+        (omega (arith, pre .0 .0, inv .0), omega (arith, pre .0 .1, inv .1)),
+        ((omega (arith, inv .4, inv .2), omega (arith, inv .2, pre .1 .1)), omega (arith, inv .5)),
+      ),
     )
 
 same-length : tie.Need-same-length Inv-loop μ-loop
@@ -59,7 +63,7 @@ finish-requires : tie.Need-finish-requires Inv-loop μ-loop
 finish-requires c κs =
     let turned = c .before .before .before .before .before .before .before .before .before .before .turn in
     let inv = c .before .before .before .before .before .before .before .before .before .before .before .before .before .before .before .loop .inv in
-    (omega (arith, turned .ensures .1 .0, turned .kept .1 .1 .1 .1 .1 .1 .0), omega (arith, turned .kept .1 .1 .1 .1 .1 .1 .0, inv .2, c .before .before .before .before .before .before .before .before .before .before .before .before .before .before .before .before .before .before .before .before .before .before .before .pre .1))
+    (omega (arith, turned .ensures .1 .0, turned .kept .1 .1 .1 .1 .1 .1 .0), omega (arith, turned .kept .1 .1 .1 .1 .1 .1 .0, inv .2, c .before .before .before .before .before .before .before .before .before .before .before .before .before .before .before .before .before .before .before .before .before .before .before .pre .1 .1))
 
 same-length-4 : tie.Need-same-length-4 Inv-loop μ-loop
 same-length-4 c = c .before .before .before .before .before .before .before .before .before .before .before .before .before .turn .kept .1 .1 .0 ∙ c .before .before .before .before .before .before .before .before .before .before .before .before .before .before .before .before .before .before .loop .inv .0

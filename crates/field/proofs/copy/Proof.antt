@@ -1,9 +1,9 @@
 -- `field::copy` meets its contract: after i turns the first i bytes of s stand in out. Assumes nothing.
-use Prim.Native.Nat.{ℕ, _≤_, _+_, _-_}
-use mathlib.Core.Path.{_≡_, refl, _∙_, sym, ap}
+use Prim.Native.Nat.{ℕ, _≤_, _-_}
+use mathlib.Core.Path.{_≡_, refl, _∙_, ap}
 use mathlib.Core.List.{List}
 use native.Mathlib.Omega.{arith}
-use lib.ListN.{length, take, set, getD, length-set}
+use lib.ListN.{length, take, length-set}
 use lib.Seq.{sets, take-all}
 use Rattle.field.proofs.Stores.{copied}
 use Rattle.field.proofs.copy.Statement.{statement}

@@ -1,8 +1,8 @@
 -- `field::read` meets its contract: after i bytes r is their number, below 256 ^ i. Assumes nothing.
-use Prim.Native.Nat.{ℕ, _≤_, _<_, _+_, _-_, _*_, _^_, suc}
-use mathlib.Core.Path.{_≡_, refl, ap}
+use Prim.Native.Nat.{ℕ, _≤_, _<_, _+_, _-_, _*_, _^_}
+use mathlib.Core.Path.{_≡_, ap}
 use mathlib.Core.List.{List}
-use lib.ListN.{length, getD}
+use lib.ListN.{getD}
 use lib.Dec.{lit<}
 use lib.Arith.{digits-lt}
 use native.Mathlib.Omega.{arith}

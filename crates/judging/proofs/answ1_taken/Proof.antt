@@ -1,17 +1,9 @@
 -- `judging::answ1_taken` meets its contract. Assumes nothing.
-use Rattle.judging.specs.Judging.{answ1Taken, offsetBetween}
+use Rattle.rules.proofs.Tests.{tests}
+use Rattle.judging.specs.Judging.{answ1Taken}
 use borrow.Author.Needs.{needs}
-use mathlib.Core.Path.{_≡_, ap}
-use lib.IntN.{ℤ}
-use Rattle.clock.specs.declared.Offset.{Offset}
 use Rattle.judging.proofs.answ1_taken.Statement.{statement}
 use Rattle.judging.proofs.answ1_taken.Tie as tie
-
-between-requires : tie.Need-between-requires
-between-requires c κs = search needs
-
-between-requires-2 : tie.Need-between-requires-2
-between-requires-2 c κs = search needs
 
 reply-header-requires : tie.Need-reply-header-requires
 reply-header-requires c κs = search needs
@@ -22,41 +14,41 @@ empty-requires c κs = search needs
 with-answer-requires : tie.Need-with-answer-requires
 with-answer-requires c κs = search needs
 
+min-of-requires : tie.Need-min-of-requires
+min-of-requires c κs = search needs
+
+max-of-requires : tie.Need-max-of-requires
+max-of-requires c κs = search needs
+
 with-offsets-requires : tie.Need-with-offsets-requires
 with-offsets-requires c κs = search needs
 
 sending-requires : tie.Need-sending-requires
 sending-requires c κs = search needs
 
-abbrev offsetAs : ℤ → Offset
-offsetAs z = record { 0 = z }
-
 returns : tie.Need-returns
 unfolding answ1Taken
 returns c =
-    let d = c .before .before .before .before .before in
-    let a = c .before .before .before .before .before .before .before .before .before .before .args in
-    let min : d .before .between .result ≡ offsetBetween (a .c .«wait_start») (a .h .arrival) = ap offsetAs (d .before .between .ensures) in
-    let max : d .between2 .result ≡ offsetBetween (a .now) (a .h .stamp) = ap offsetAs (d .between2 .ensures) in
-    simp (
+    search (
+      tests,
       c .sending .ensures,
       c .before .with-offsets .ensures,
-      c .before .before .with-answer .ensures,
-      c .before .before .before .empty .ensures,
-      c .before .before .before .before .reply-header .ensures,
-      min,
-      max,
+      c .before .before .max-of .ensures,
+      c .before .before .before .min-of .ensures,
+      c .before .before .before .before .with-answer .ensures,
+      c .before .before .before .before .before .empty .ensures,
+      c .before .before .before .before .before .before .reply-header .ensures,
     )
 
 pub answ1-taken-spec : {M : Type 1} → statement M
 answ1-taken-spec =
     tie.close
     (tie.spec
-    between-requires
-    between-requires-2
     reply-header-requires
     empty-requires
     with-answer-requires
+    min-of-requires
+    max-of-requires
     with-offsets-requires
     sending-requires
     returns)

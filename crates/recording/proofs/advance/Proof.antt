@@ -1,5 +1,4 @@
 -- `recording::advance` meets its contract: a step, its line, and the progress after it. Assumes nothing.
-use Prim.Native.Nat.{ℕ}
 use mathlib.Core.Path.{_∙_, ap, subst}
 use lib.ListN.{length}
 use Rattle.text.specs.Text.{PutAt}
@@ -22,7 +21,7 @@ stepped-requires c κs =
     let taken = c .before .before .before .before .take in
     let start = c .before .before .before .before .before .before .before .before in
     let a = start .args in
-    (uses (a .normal .now) (a .redundant .now) (a .p) (start .pre .0) (taken .ensures), start .pre .1 .1)
+    (uses (a .normal .now) (a .redundant .now) (a .p) (start .pre .0) (taken .ensures), start .pre .1 .1 .1)
 
 same-length : tie.Need-same-length
 same-length c = search needs

@@ -1,10 +1,9 @@
 -- `worked_numbers::worked_ages` meets its contract, by computation. Assumes nothing.
-use mathlib.Core.Path.{_≡_, ap, _∙_}
+use mathlib.Core.Path.{ap, _∙_}
 use Prim.Native.Nat.{ℕ}
-use lib.IntN.{ℤ, pos, negsuc}
+use lib.IntN.{ℤ}
 use Rattle.clock.specs.Clock.{ageOf, centred, wrapped}
 use Rattle.rules.specs.Modulo.{modulo}
-use Rattle.worked_numbers.specs.Worked.{offsets}
 use Rattle.worked_numbers.specs.declared.Offsets.{Offsets}
 use borrow.Author.Needs.{needs}
 use Rattle.worked_numbers.proofs.worked_ages.Statement.{statement}

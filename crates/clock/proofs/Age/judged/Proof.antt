@@ -1,10 +1,8 @@
 use borrow.Author.Needs.{needs}
-use Prim.Native.Nat.{ℕ, _<_, _≤_}
-use mathlib.Core.Path.{_≡_, sym, ap}
+use mathlib.Core.Path.{sym}
 use native.Mathlib.Omega.{arith}
-use lib.IntN.{ℤ, natAbs}
 use mir.Syntax.{w32}
-use mir.Val.{SFits, toZ, ofZ}
+use mir.Val.{SFits}
 use Rattle.clock.proofs.Wrapped.{upper, is-below, is-from}
 use Rattle.clock.proofs.Cases.{verdict-future, verdict-late, verdict-fresh}
 use Rattle.clock.proofs.Age.judged.Statement.{statement}

@@ -1,6 +1,5 @@
 use borrow.Author.Needs.{needs}
 use mathlib.Core.Path.{_∙_}
-use mir.Facts.{toZ-ofZ}
 use Rattle.clock.specs.Clock.{ageOf}
 use Rattle.clock.proofs.Wrapped.{reads, centred-same, centred-range, wrap-sub, wrap-add, wrapped-of, ≈-refl}
 use Rattle.clock.proofs.Age.of.Statement.{statement}

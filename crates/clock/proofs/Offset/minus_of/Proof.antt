@@ -1,11 +1,11 @@
 use borrow.Author.Needs.{needs}
 use mathlib.Core.Path.{refl}
 use native.Mathlib.Omega.{arith}
-use lib.IntN.{ℤ, pos, negℤ, _-ℤ_}
+use lib.IntN.{pos, negℤ, _-ℤ_}
 use mathlib.Core.Path.{_≡_}
 use mir.Facts.{sfits-widen}
-use mir.Syntax.{w32, w64}
-use mir.Val.{SFits, toZ}
+use mir.Syntax.{w64}
+use mir.Val.{toZ}
 use Rattle.clock.proofs.Wrapped.{reads, minus-of, fits-as, neg-fits}
 use Rattle.clock.proofs.Offset.minus_of.Statement.{statement}
 use Rattle.clock.proofs.Offset.minus_of.Tie as tie

@@ -1,5 +1,4 @@
 use borrow.Author.Needs.{needs}
-use native.Mathlib.Omega.{arith}
 use Rattle.clock.proofs.Cases.{read-plus, read-minus, read-big, read-zero, read-over, read-sign}
 use Rattle.clock.proofs.Offset.read.Statement.{statement}
 use Rattle.clock.proofs.Offset.read.Tie as tie

@@ -1,0 +1,45 @@
+-- `cut::both_topped_up` meets its contract. Assumes nothing.
+use mathlib.Core.Path.{sym}
+use mathlib.Core.Bool.{false≢true}
+use borrow.Author.Needs.{needs}
+use Rattle.cut.proofs.both_topped_up.Statement.{statement}
+use Rattle.cut.proofs.both_topped_up.Tie as tie
+
+topped-up-requires : tie.Need-topped-up-requires
+topped-up-requires c κs = search needs
+
+same-length : tie.Need-same-length
+same-length c = search needs
+
+returns : tie.Need-returns
+returns c =
+    let first = c .before .before .before .before .before .topped-up in
+    let start = c .before .before .before .before .before .before .before .before .before .before .before in
+    ((first .ensures .0, start .pre .0 .1), λ ok. absurd (false≢true (sym ok)))
+
+topped-up-requires-2 : tie.Need-topped-up-requires-2
+topped-up-requires-2 c κs = search needs
+
+same-length-2 : tie.Need-same-length-2
+same-length-2 c = search needs
+
+same-length-3 : tie.Need-same-length-3
+same-length-3 c = search needs
+
+returns-2 : tie.Need-returns-2
+returns-2 c =
+    let first = c .before .before .before .before .before .before .before .before .before .before .topped-up in
+    let second = c .before .before .before .topped-up2 in
+    ((first .ensures .0, second .ensures .0), λ ok. (first .ensures .1 (c .before .before .before .before .before .if1 .left), second .ensures .1 ok))
+
+pub both-topped-up-spec : {M : Type 1} → statement M
+both-topped-up-spec =
+    tie.close
+    (tie.spec
+    topped-up-requires
+    same-length
+    returns
+    topped-up-requires-2
+    same-length-2
+    same-length-3
+    returns-2)
