@@ -7,7 +7,7 @@ use mathlib.Core.List.{List}
 use native.Mathlib.Omega.{arith}
 use borrow.Author.Tests.{not-true}
 use lib.Dec.{T, ltb, leb, eqb}
-use Rattle.clock.specs.Clock.{goesBack, waitOf}
+use Rattle.clock.specs.Clock.{goesBack}
 use Rattle.clock.specs.declared.Count.{Count}
 use Rattle.message.specs.Read.{parsedOf}
 use Rattle.message.specs.declared.Header.{Header}
@@ -377,12 +377,12 @@ Refusal c k = false ≡ releasedBy c k
 -- an open connection has no wait
 not-open : (c : Connection) (now : Count) → expired c now ≡ true → eqb (c .phase) opened ≡ false
 unfolding expired timed
-not-open c now e = go (eqb (c .phase) responderWaitsFor1) (eqb (c .phase) opened) e
+not-open c now e = go (eqb (c .phase) responderWaitsFor1) (eqb (c .phase) opened) _ e
   where
-    go : (a b : Bool) → not a && not b && leb (c .settings .«t_start») (waitOf (now .0) (c .«wait_start» .0)) ≡ true → b ≡ false
-    go a false e = refl
-    go true true e = sym e
-    go false true e = sym e
+    go : (a b over : Bool) → not a && not b && over ≡ true → b ≡ false
+    go a false over e = refl
+    go true true over e = sym e
+    go false true over e = sym e
 
 raises-rel : (c d : Connection) (k n : ℕ) → d .settings ≡ c .settings → d .errors ≡ c .errors
     → releasedBy c k ≡ leb (c .settings .limit) (c .errors + 1) → Rel c (raises d k n)
