@@ -20,6 +20,7 @@ use Rattle.judging.specs.declared.Reply.the-variants.{Nothing, Send}
 use Rattle.judging.specs.declared.Outcome.{Outcome}
 use Rattle.judging.specs.Judging.{keeps, releases, sends, stepOf}
 use Rattle.calls.specs.declared.Answer.{Answer}
+use Rattle.calls.specs.declared.Called.{Called}
 
 -- ---- caller's faults, judged in the order listed: the number of the first, 0 where there is none
 
@@ -133,10 +134,17 @@ replyBytes Nothing lent = []
 replyBytes (Send h t) lent = messageBytes h t lent
 
 abbrev pub answerWith : Outcome → ℕ → Answer
-answerWith o written = record { number = o .answer; released = o .released; written = written; delivered = o .delivered; next = o .next }
+answerWith o written = record { number = o .answer; released = o .released; written = written; delivered = o .delivered }
 
+abbrev pub calledWith : Outcome → ℕ → Called
+calledWith o written = record { answer = answerWith o written; next = o .next }
+
+-- what a call answers, and what it comes to, where these bytes were lent to send
 abbrev pub answerOf : Outcome → List ℕ → Answer
 answerOf o lent = answerWith o (length (replyBytes (o .reply) lent))
+
+abbrev pub calledOf : Outcome → List ℕ → Called
+calledOf o lent = calledWith o (length (replyBytes (o .reply) lent))
 
 -- bytes of the out buffer past what is written stay
 abbrev pub outAfter : Outcome → List ℕ → List ℕ → List ℕ

@@ -20,8 +20,8 @@ ghost use Rattle.calls.specs.Calls.{
   startHeader,
   beginOutcome,
   replyBytes,
-  answerWith,
-  answerOf,
+  calledWith,
+  calledOf,
   outAfter,
   writable,
   deliveredOf,
@@ -42,6 +42,11 @@ pub struct Answer {
     pub written: usize,
     // How many bytes of the message, from byte 15 on, are delivered.
     pub delivered: usize,
+}
+
+// A call's answer, and the record that it leaves.
+pub struct Called {
+    pub answer: Answer,
     pub next: Connection,
 }
 
@@ -263,16 +268,18 @@ fn put(reply: Reply, data: &[u8], out: &mut [u8]) -> usize
     }
 }
 
-// The answer to a call that wrote so many bytes.
-fn answered(o: Outcome, written: usize) -> Answer
-    ensures { λ r. ⌜ r ≡ answerWith o written ⌝ }
+// What a call that wrote so many bytes comes to.
+fn answered(o: Outcome, written: usize) -> Called
+    ensures { λ r. ⌜ r ≡ calledWith o written ⌝ }
 {
     let next = o.next;
-    Answer {
-        number: o.answer,
-        released: o.released,
-        written,
-        delivered: o.delivered,
+    Called {
+        answer: Answer {
+            number: o.answer,
+            released: o.released,
+            written,
+            delivered: o.delivered,
+        },
         next,
     }
 }
@@ -285,8 +292,8 @@ pub fn begin(
     period: u32,
     at: Count,
     out: &mut [u8],
-) -> Answer
-    ensures { λ r. ⌜ (r ≡ answerOf (beginOutcome c role settings first period at (length (now (out .entry)))) [])
+) -> Called
+    ensures { λ r. ⌜ (r ≡ calledOf (beginOutcome c role settings first period at (length (now (out .entry)))) [])
         × (now (out .exit) ≡ outAfter (beginOutcome c role settings first period at (length (now (out .entry)))) [] (now (out .entry))) ⌝ }
 {
     let o = begin_outcome(c, role, settings, first, period, at, out.len());
@@ -295,8 +302,8 @@ pub fn begin(
     answered(o, written)
 }
 
-pub fn receive(c: Connection, at: Count, message: &[u8], out: &mut [u8]) -> Answer
-    ensures { λ r. ⌜ (r ≡ answerOf (receiveOutcome c at (now (message .entry)) (length (now (out .entry)))) [])
+pub fn receive(c: Connection, at: Count, message: &[u8], out: &mut [u8]) -> Called
+    ensures { λ r. ⌜ (r ≡ calledOf (receiveOutcome c at (now (message .entry)) (length (now (out .entry)))) [])
         × (now (out .exit) ≡ outAfter (receiveOutcome c at (now (message .entry)) (length (now (out .entry)))) [] (now (out .entry))) ⌝ }
 {
     let o = receive_outcome(c, at, message, out.len());
@@ -305,8 +312,8 @@ pub fn receive(c: Connection, at: Count, message: &[u8], out: &mut [u8]) -> Answ
     answered(o, written)
 }
 
-pub fn send(c: Connection, at: Count, data: &[u8], out: &mut [u8]) -> Answer
-    ensures { λ r. ⌜ (r ≡ answerOf (sendOutcome c at (length (now («data» .entry))) (length (now (out .entry)))) (now («data» .entry)))
+pub fn send(c: Connection, at: Count, data: &[u8], out: &mut [u8]) -> Called
+    ensures { λ r. ⌜ (r ≡ calledOf (sendOutcome c at (length (now («data» .entry))) (length (now (out .entry)))) (now («data» .entry)))
         × (now (out .exit) ≡ outAfter (sendOutcome c at (length (now («data» .entry))) (length (now (out .entry)))) (now («data» .entry)) (now (out .entry))) ⌝ }
 {
     let o = send_outcome(c, at, data.len(), out.len());
@@ -315,14 +322,14 @@ pub fn send(c: Connection, at: Count, data: &[u8], out: &mut [u8]) -> Answer
     answered(o, written)
 }
 
-pub fn tick(c: Connection, now: Count) -> Answer
-    ensures { λ r. ⌜ r ≡ answerOf (tickOutcome c now) [] ⌝ }
+pub fn tick(c: Connection, now: Count) -> Called
+    ensures { λ r. ⌜ r ≡ calledOf (tickOutcome c now) [] ⌝ }
 {
     answered(tick_outcome(c, now), 0)
 }
 
-pub fn close(c: Connection) -> Answer
-    ensures { λ r. ⌜ r ≡ answerOf (closeOutcome c) [] ⌝ }
+pub fn close(c: Connection) -> Called
+    ensures { λ r. ⌜ r ≡ calledOf (closeOutcome c) [] ⌝ }
 {
     answered(close_outcome(c), 0)
 }

@@ -5,7 +5,7 @@ ghost use mathlib.Core.Path.{_≡_};
 ghost use Prim.Native.Nat.{_+_, _≤_};
 ghost use lib.ListN.{length};
 ghost use Rattle.window.specs.Window.{Within};
-use calls::Answer;
+use calls::Called;
 use clock::Count;
 use clock::Offset;
 use connection::Connection;
@@ -72,7 +72,7 @@ fn connection_of(s: &[u8]) -> Connection
 }
 
 // Begin's bytes: role 1, settings 19, first number 2, period 4. Another size is no role.
-fn begun(c: Connection, at: Count, bytes: &[u8], lent: &mut [u8]) -> Answer {
+fn begun(c: Connection, at: Count, bytes: &[u8], lent: &mut [u8]) -> Called {
     if bytes.len() == BEGIN {
         let role = field::read8(bytes, 0);
         let first = field::read16(bytes, 20);
@@ -84,7 +84,7 @@ fn begun(c: Connection, at: Count, bytes: &[u8], lent: &mut [u8]) -> Answer {
 }
 
 // The call: 1 begin, 2 receive, 3 send, 4 tick, 5 close.
-fn called(kind: u8, c: Connection, at: Count, bytes: &[u8], lent: &mut [u8]) -> Answer {
+fn called(kind: u8, c: Connection, at: Count, bytes: &[u8], lent: &mut [u8]) -> Called {
     match kind {
         1 => begun(c, at, bytes, lent),
         2 => calls::receive(c, at, bytes, lent),
@@ -189,11 +189,12 @@ fn put_delivered(out: &mut [u8], at: usize, bytes: &[u8], count: usize) -> usize
 }
 
 // The line of a call.
-fn put_line(out: &mut [u8], answer: Answer, bytes: &[u8], lent: &[u8]) -> usize
+fn put_line(out: &mut [u8], made: Called, bytes: &[u8], lent: &[u8]) -> usize
     requires { ⌜ (length (now bytes) ≤ 1024) × (length (now lent) ≤ 1024) × (8192 ≤ length (now out)) ⌝ }
     ensures { λ r. ⌜ r ≤ 8192 ⌝ }
 {
-    let c = answer.next;
+    let c = made.next;
+    let answer = made.answer;
     let after_number = put_number(out, 0, answer.number, answer.released);
     let after_written = line::put_written(out, after_number, lent, answer.written);
     let after_delivered = put_delivered(out, after_written, bytes, answer.delivered);
@@ -201,17 +202,24 @@ fn put_line(out: &mut [u8], answer: Answer, bytes: &[u8], lent: &[u8]) -> usize
     text::put(out, after_record, b"\n")
 }
 
-// The call at the front of s, which ends there, with so much of the lent buffer to write to.
+// Makes the call at the front of s, which ends there, with so much of the lent buffer to write to.
+fn make_call(s: &[u8], end: usize, lent: &mut [u8], room: usize) -> Called
+    requires { ⌜ (62 ≤ end) × (end ≤ length (now s)) × (room ≤ length (now lent)) ⌝ }
+{
+    let kind = field::read8(s, 53);
+    let c = connection_of(s);
+    let at = count_of(s, 54);
+    called(kind, c, at, &s[FIELDS..end], &mut lent[0..room])
+}
+
+// That call, and its line.
 fn put_call(out: &mut [u8], s: &[u8], end: usize, lent: &mut [u8], room: usize) -> usize
     requires { ⌜ (62 ≤ end) × (end ≤ 1086) × (end ≤ length (now s)) ⌝ }
     requires { ⌜ (room ≤ length (now lent)) × (length (now lent) ≤ 1024) × (8192 ≤ length (now out)) ⌝ }
     ensures { λ r. ⌜ r ≤ 8192 ⌝ }
 {
-    let kind = field::read8(s, 53);
-    let c = connection_of(s);
-    let at = count_of(s, 54);
-    let answer = called(kind, c, at, &s[FIELDS..end], &mut lent[0..room]);
-    put_line(out, answer, &s[FIELDS..end], lent)
+    let made = make_call(s, end, lent, room);
+    put_line(out, made, &s[FIELDS..end], lent)
 }
 
 // The call at the front of s, if it is there whole.

@@ -3,7 +3,7 @@ use mathlib.Core.Path.{ap, ap₂, _∙_}
 use mathlib.Core.List.{[]}
 use lib.ListN.{length}
 use Rattle.judging.specs.declared.Outcome.{Outcome}
-use Rattle.calls.specs.Calls.{replyBytes, answerWith, outAfter}
+use Rattle.calls.specs.Calls.{replyBytes, calledWith, outAfter}
 use Rattle.calls.proofs.Replies.{begin-whole}
 use borrow.Author.Needs.{needs}
 use Rattle.calls.proofs.begin.Statement.{statement}
@@ -31,7 +31,7 @@ returns c =
     let a = c .before .before .before .before .before .before .before .before .args in
     let o = c .before .before .before .before .before .before .begin-outcome .ensures in
     let p = c .before .before .before .put .ensures in (
-      c .answered .ensures ∙ ap₂ answerWith o (p .0 ∙ ap (λ (x : Outcome). length (replyBytes (x .reply) [])) o),
+      c .answered .ensures ∙ ap₂ calledWith o (p .0 ∙ ap (λ (x : Outcome). length (replyBytes (x .reply) [])) o),
       p .1 ∙ ap (λ (x : Outcome). outAfter x [] (a .out .now)) o,
     )
 

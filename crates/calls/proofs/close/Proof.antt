@@ -4,7 +4,7 @@ use mathlib.Core.List.{[]}
 use lib.ListN.{length}
 use Rattle.judging.specs.declared.Reply.{Reply}
 use Rattle.judging.specs.declared.Outcome.{Outcome}
-use Rattle.calls.specs.Calls.{closeOutcome, replyBytes, answerWith}
+use Rattle.calls.specs.Calls.{closeOutcome, replyBytes, calledWith}
 use Rattle.calls.proofs.Replies.{close-silent}
 use borrow.Author.Needs.{needs}
 use Rattle.calls.proofs.close.Statement.{statement}
@@ -19,7 +19,7 @@ answered-requires c κs = search needs
 returns : tie.Need-returns
 returns c =
     let o = c .before .close-outcome .ensures in
-    c .answered .ensures ∙ ap (λ (x : Outcome). answerWith x 0) o ∙ ap (answerWith (closeOutcome (c .before .before .args .c))) (sym (ap (λ (x : Reply). length (replyBytes x [])) (close-silent (c .before .before .args .c))))
+    c .answered .ensures ∙ ap (λ (x : Outcome). calledWith x 0) o ∙ ap (calledWith (closeOutcome (c .before .before .args .c))) (sym (ap (λ (x : Reply). length (replyBytes x [])) (close-silent (c .before .before .args .c))))
 
 pub close-spec : {M : Type 1} → statement M
 close-spec = tie.close (tie.spec close-outcome-requires answered-requires returns)

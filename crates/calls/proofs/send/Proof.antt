@@ -2,7 +2,7 @@
 use mathlib.Core.Path.{ap, ap₂, _∙_}
 use lib.ListN.{length}
 use Rattle.judging.specs.declared.Outcome.{Outcome}
-use Rattle.calls.specs.Calls.{replyBytes, answerWith, outAfter}
+use Rattle.calls.specs.Calls.{replyBytes, calledWith, outAfter}
 use Rattle.calls.proofs.Replies.{send-whole}
 use borrow.Author.Needs.{needs}
 use Rattle.calls.proofs.send.Statement.{statement}
@@ -27,7 +27,7 @@ returns c =
     let a = c .before .before .before .before .before .before .before .before .args in
     let o = c .before .before .before .before .before .send-outcome .ensures in
     let p = c .before .before .before .put .ensures in (
-      c .answered .ensures ∙ ap₂ answerWith o (p .0 ∙ ap (λ (x : Outcome). length (replyBytes (x .reply) (a .«data» .now))) o),
+      c .answered .ensures ∙ ap₂ calledWith o (p .0 ∙ ap (λ (x : Outcome). length (replyBytes (x .reply) (a .«data» .now))) o),
       p .1 ∙ ap (λ (x : Outcome). outAfter x (a .«data» .now) (a .out .now)) o,
     )
 

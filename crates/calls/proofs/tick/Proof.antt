@@ -4,7 +4,7 @@ use mathlib.Core.List.{[]}
 use lib.ListN.{length}
 use Rattle.judging.specs.declared.Reply.{Reply}
 use Rattle.judging.specs.declared.Outcome.{Outcome}
-use Rattle.calls.specs.Calls.{tickOutcome, replyBytes, answerWith}
+use Rattle.calls.specs.Calls.{tickOutcome, replyBytes, calledWith}
 use Rattle.calls.proofs.Replies.{tick-silent}
 use borrow.Author.Needs.{needs}
 use Rattle.calls.proofs.tick.Statement.{statement}
@@ -19,7 +19,7 @@ answered-requires c κs = search needs
 returns : tie.Need-returns
 returns c =
     let o = c .before .tick-outcome .ensures in
-    c .answered .ensures ∙ ap (λ (x : Outcome). answerWith x 0) o ∙ ap (answerWith (tickOutcome (c .before .before .args .c) (c .before .before .args .now))) (sym (ap (λ (x : Reply). length (replyBytes x [])) (tick-silent (c .before .before .args .c) (c .before .before .args .now))))
+    c .answered .ensures ∙ ap (λ (x : Outcome). calledWith x 0) o ∙ ap (calledWith (tickOutcome (c .before .before .args .c) (c .before .before .args .now))) (sym (ap (λ (x : Reply). length (replyBytes x [])) (tick-silent (c .before .before .args .c) (c .before .before .args .now))))
 
 pub tick-spec : {M : Type 1} → statement M
 tick-spec = tie.close (tie.spec tick-outcome-requires answered-requires returns)
