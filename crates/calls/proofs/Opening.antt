@@ -27,26 +27,12 @@ use Rattle.connection.specs.Connection.{
   clocked,
   heard,
 }
-use Rattle.judging.specs.declared.Expectation.the-variants.{Expected}
+use Rattle.faults.specs.declared.Expectation.the-variants.{Expected}
 use Rattle.judging.specs.declared.Reply.{Reply}
 use Rattle.judging.specs.declared.Reply.the-variants.{Send}
 use Rattle.judging.specs.declared.Outcome.{Outcome}
-use Rattle.judging.specs.Judging.{
-  expectationOf,
-  dropped,
-  tooFar,
-  wrongEcho,
-  faultOf,
-  startTaken,
-  answ1Taken,
-  answ2Taken,
-  estTaken,
-  endTaken,
-  dataTaken,
-  takenOf,
-  refuses,
-  raises,
-}
+use Rattle.faults.specs.Faults.{expectationOf, dropped, tooFar, wrongEcho, faultOf}
+use Rattle.judging.specs.Judging.{startTaken, answ1Taken, answ2Taken, estTaken, endTaken, dataTaken, takenOf, refuses, raises}
 use Rattle.calls.specs.Calls.{
   closeRefusal,
   receiveRefusal,

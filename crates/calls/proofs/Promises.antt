@@ -28,35 +28,11 @@ use Rattle.connection.specs.Connection.{
   clocked,
   heard,
 }
-use Rattle.judging.specs.declared.Expectation.{Expectation}
-use Rattle.judging.specs.declared.Expectation.the-variants.{Expected, Unexpected, Released}
+use Rattle.faults.specs.declared.Expectation.{Expectation}
+use Rattle.faults.specs.declared.Expectation.the-variants.{Expected, Unexpected, Released}
 use Rattle.judging.specs.declared.Outcome.{Outcome}
-use Rattle.judging.specs.Judging.{
-  keeps,
-  releases,
-  malformedOf,
-  expectationOf,
-  dropped,
-  tooFar,
-  wrongEcho,
-  checkFailed,
-  ageNumber,
-  gap,
-  faultOf,
-  startTaken,
-  answ1Taken,
-  answ2Taken,
-  estTaken,
-  endTaken,
-  dataTaken,
-  takenOf,
-  refuses,
-  raises,
-  openFollowsOf,
-  followsOf,
-  metOf,
-  stepOf,
-}
+use Rattle.faults.specs.Faults.{expectationOf, dropped, tooFar, wrongEcho, checkFailed, ageNumber, gap, faultOf}
+use Rattle.judging.specs.Judging.{keeps, releases, malformedOf, startTaken, answ1Taken, answ2Taken, estTaken, endTaken, dataTaken, takenOf, refuses, raises, openFollowsOf, followsOf, metOf, stepOf}
 use Rattle.calls.specs.Calls.{
   bad,
   closeRefusal,

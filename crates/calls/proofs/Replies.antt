@@ -22,29 +22,13 @@ use Rattle.message.specs.declared.Parsed.{Parsed}
 use Rattle.connection.specs.declared.Settings.{Settings}
 use Rattle.connection.specs.declared.Connection.{Connection}
 use Rattle.connection.specs.Connection.{closed, opened, initiatorWaitsFor4, outOfRange}
-use Rattle.judging.specs.declared.Expectation.{Expectation}
-use Rattle.judging.specs.declared.Expectation.the-variants.{Expected, Unexpected, Released}
+use Rattle.faults.specs.declared.Expectation.{Expectation}
+use Rattle.faults.specs.declared.Expectation.the-variants.{Expected, Unexpected, Released}
 use Rattle.judging.specs.declared.Reply.{Reply}
 use Rattle.judging.specs.declared.Reply.the-variants.{Nothing, Send}
 use Rattle.judging.specs.declared.Outcome.{Outcome}
-use Rattle.judging.specs.Judging.{
-  malformedOf,
-  expectationOf,
-  faultOf,
-  startTaken,
-  answ1Taken,
-  answ2Taken,
-  estTaken,
-  endTaken,
-  dataTaken,
-  takenOf,
-  refuses,
-  raises,
-  openFollowsOf,
-  followsOf,
-  metOf,
-  stepOf,
-}
+use Rattle.faults.specs.Faults.{expectationOf, faultOf}
+use Rattle.judging.specs.Judging.{malformedOf, startTaken, answ1Taken, answ2Taken, estTaken, endTaken, dataTaken, takenOf, refuses, raises, openFollowsOf, followsOf, metOf, stepOf}
 use Rattle.calls.specs.Calls.{
   closeRefusal,
   tickRefusal,

@@ -1,8 +1,8 @@
--- `judging::is_wrong_echo` meets its contract. Assumes nothing.
+-- `faults::is_wrong_echo` meets its contract. Assumes nothing.
 use Rattle.rules.proofs.Tests.{tests}
-use Rattle.judging.specs.Judging.{wrongEcho}
-use Rattle.judging.proofs.is_wrong_echo.Statement.{statement}
-use Rattle.judging.proofs.is_wrong_echo.Tie as tie
+use Rattle.faults.specs.Faults.{wrongEcho}
+use Rattle.faults.proofs.is_wrong_echo.Statement.{statement}
+use Rattle.faults.proofs.is_wrong_echo.Tie as tie
 
 returns : tie.Need-returns
 unfolding wrongEcho

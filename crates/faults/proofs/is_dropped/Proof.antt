@@ -1,8 +1,8 @@
--- `judging::is_dropped` meets its contract. Assumes nothing.
+-- `faults::is_dropped` meets its contract. Assumes nothing.
 use Rattle.rules.proofs.Tests.{tests}
-use Rattle.judging.specs.Judging.{dropped, numberJudged}
-use Rattle.judging.proofs.is_dropped.Statement.{statement}
-use Rattle.judging.proofs.is_dropped.Tie as tie
+use Rattle.faults.specs.Faults.{dropped, numberJudged}
+use Rattle.faults.proofs.is_dropped.Statement.{statement}
+use Rattle.faults.proofs.is_dropped.Tie as tie
 
 returns : tie.Need-returns
 unfolding dropped numberJudged

@@ -1,8 +1,8 @@
--- `judging::is_gap` meets its contract. Assumes nothing.
+-- `faults::is_gap` meets its contract. Assumes nothing.
 use Rattle.rules.proofs.Tests.{tests}
-use Rattle.judging.specs.Judging.{gap, numberJudged}
-use Rattle.judging.proofs.is_gap.Statement.{statement}
-use Rattle.judging.proofs.is_gap.Tie as tie
+use Rattle.faults.specs.Faults.{gap, numberJudged}
+use Rattle.faults.proofs.is_gap.Statement.{statement}
+use Rattle.faults.proofs.is_gap.Tie as tie
 
 returns : tie.Need-returns
 unfolding gap numberJudged

@@ -1,8 +1,8 @@
--- `judging::expected` meets its contract. Assumes nothing.
+-- `faults::expected` meets its contract. Assumes nothing.
 use Rattle.rules.proofs.Tests.{tests}
-use Rattle.judging.specs.Judging.{expectationOf}
-use Rattle.judging.proofs.expected.Statement.{statement}
-use Rattle.judging.proofs.expected.Tie as tie
+use Rattle.faults.specs.Faults.{expectationOf}
+use Rattle.faults.proofs.expected.Statement.{statement}
+use Rattle.faults.proofs.expected.Tie as tie
 
 returns : tie.Need-returns
 unfolding expectationOf

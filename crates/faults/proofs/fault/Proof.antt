@@ -1,9 +1,9 @@
--- `judging::fault` meets its contract. Assumes nothing.
+-- `faults::fault` meets its contract. Assumes nothing.
 use Rattle.rules.proofs.Tests.{tests}
-use Rattle.judging.specs.Judging.{faultOf}
+use Rattle.faults.specs.Faults.{faultOf}
 use borrow.Author.Needs.{needs}
-use Rattle.judging.proofs.fault.Statement.{statement}
-use Rattle.judging.proofs.fault.Tie as tie
+use Rattle.faults.proofs.fault.Statement.{statement}
+use Rattle.faults.proofs.fault.Tie as tie
 
 distance-requires : tie.Need-distance-requires
 distance-requires c κs = search needs

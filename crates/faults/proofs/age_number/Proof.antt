@@ -1,9 +1,9 @@
--- `judging::age_number` meets its contract. Assumes nothing.
+-- `faults::age_number` meets its contract. Assumes nothing.
 use Rattle.rules.proofs.Tests.{tests}
-use Rattle.judging.specs.Judging.{ageNumber}
+use Rattle.faults.specs.Faults.{ageNumber}
 use borrow.Author.Needs.{needs}
-use Rattle.judging.proofs.age_number.Statement.{statement}
-use Rattle.judging.proofs.age_number.Tie as tie
+use Rattle.faults.proofs.age_number.Statement.{statement}
+use Rattle.faults.proofs.age_number.Tie as tie
 
 returns : tie.Need-returns
 unfolding ageNumber

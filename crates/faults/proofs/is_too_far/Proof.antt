@@ -1,8 +1,8 @@
--- `judging::is_too_far` meets its contract. Assumes nothing.
+-- `faults::is_too_far` meets its contract. Assumes nothing.
 use Rattle.rules.proofs.Tests.{tests}
-use Rattle.judging.specs.Judging.{tooFar, numberJudged}
-use Rattle.judging.proofs.is_too_far.Statement.{statement}
-use Rattle.judging.proofs.is_too_far.Tie as tie
+use Rattle.faults.specs.Faults.{tooFar, numberJudged}
+use Rattle.faults.proofs.is_too_far.Statement.{statement}
+use Rattle.faults.proofs.is_too_far.Tie as tie
 
 returns : tie.Need-returns
 unfolding tooFar numberJudged

@@ -1,9 +1,9 @@
--- `judging::has_failed` meets its contract. Assumes nothing.
+-- `faults::has_failed` meets its contract. Assumes nothing.
 use Rattle.rules.proofs.Tests.{tests}
-use Rattle.judging.specs.Judging.{checkFailed}
+use Rattle.faults.specs.Faults.{checkFailed}
 use borrow.Author.Needs.{needs}
-use Rattle.judging.proofs.has_failed.Statement.{statement}
-use Rattle.judging.proofs.has_failed.Tie as tie
+use Rattle.faults.proofs.has_failed.Statement.{statement}
+use Rattle.faults.proofs.has_failed.Tie as tie
 
 are-accepted-requires : tie.Need-are-accepted-requires
 are-accepted-requires c κs = search needs

@@ -1,10 +1,10 @@
--- `judging::are_accepted` meets its contract. Assumes nothing.
+-- `faults::are_accepted` meets its contract. Assumes nothing.
 use Rattle.rules.proofs.Tests.{tests}
-use Rattle.judging.specs.Judging.{accepts}
+use Rattle.faults.specs.Faults.{accepts}
 use borrow.Author.Needs.{needs}
 use borrow.Author.Tests.{eq-eqb}
-use Rattle.judging.proofs.are_accepted.Statement.{statement}
-use Rattle.judging.proofs.are_accepted.Tie as tie
+use Rattle.faults.proofs.are_accepted.Statement.{statement}
+use Rattle.faults.proofs.are_accepted.Tie as tie
 
 plus-requires : tie.Need-plus-requires
 plus-requires c κs = search needs
