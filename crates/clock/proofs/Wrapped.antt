@@ -2,10 +2,10 @@
 -- Assumes nothing.
 use Prim.Native.Nat.{ℕ, zero, suc, _+_, _-_, _*_, _%_, _/_, _^_, _≤_, _<_}
 use mathlib.Core.Path.{_≡_, refl, sym, ap, _∙_, subst}
-use borrow.Author.Tests.{ltb-true, lt-ltb}
+use borrow.Author.Tests.{ltb-true, ltb-false, lt-ltb, le-ltb, le-leb, lt-leb}
 use mathlib.Core.Bool.{Bool, true, false, not}
 use native.Mathlib.Omega.{arith}
-use lib.Dec.{T, ltb, ltb→lt, nltb→le}
+use lib.Dec.{T, ltb, leb, ltb→lt, nltb→le}
 use lib.IntN.{ℤ, pos, negsuc, negℤ, natAbs, _+ℤ_, _-ℤ_, +ℤ-idl, pos-ne-negsuc}
 use lib.Signed.{mag, ltZ}
 use mir.Syntax.{Width, w32, w64}
@@ -101,6 +101,15 @@ centred-≈ z = rw (centred-toZ z) (≈-trans (toZ-≈ (wrapped z) (wrapped-lt z
 
 pub centred-range : (z : ℤ) → mag (centred z) < 2 ^ 31
 centred-range z = rw (centred-toZ z) (toZ-range (wrapped z) (wrapped-lt z))
+
+-- a centred number is negative where the number mod 2^32 is in the upper half
+pub centred-negative : (z : ℤ) → leb (2 ^ 31) (wrapped z) ≡ ltZ (centred z) (pos 0)
+unfolding centred
+centred-negative z = by (ltb (wrapped z) (2 ^ 31)) refl
+  where
+    by : (t : Bool) → ltb (wrapped z) (2 ^ 31) ≡ t → leb (2 ^ 31) (wrapped z) ≡ ltZ (when t answer pos (wrapped z) else (pos (wrapped z) -ℤ pos (2 ^ 32))) (pos 0)
+    by true e = lt-leb (2 ^ 31) (wrapped z) (ltb-true (wrapped z) (2 ^ 31) e) ∙ sym (le-ltb (wrapped z) 0 (omega arith))
+    by false e = le-leb (2 ^ 31) (wrapped z) (ltb-false (wrapped z) (2 ^ 31) e) ∙ ap (λ (x : ℤ). ltZ x (pos 0)) (sym (lower-half (wrapped z) (wrapped-lt z)))
 
 -- what centres a number: in range, and apart from it by a multiple of 2^32
 pub centred-is : (z w : ℤ) → w ≈ z → mag w < 2 ^ 31 → centred z ≡ w

@@ -34,12 +34,11 @@ pub enum OffsetRead {
 }
 
 impl Count {
-    // Whether the clock goes back from the last accepted now to this one.
+    // Whether the clock goes back from the last accepted now to this one: mod 2^32, their difference is in the upper half.
     pub fn goes_back(self, last: Count) -> bool
         ensures { λ r. ⌜ r ≡ goesBack (self .0) (last .0) ⌝ }
     {
-        let apart = Offset::between(self, last);
-        apart.negative()
+        0x8000_0000 <= self.waited(last)
     }
 
     // How long a wait has lasted that a send at since began: not centred.

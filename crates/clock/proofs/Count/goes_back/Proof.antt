@@ -1,21 +1,22 @@
--- `clock::Count::goes_back` meets its contract. Assumes nothing.
-use borrow.Author.Needs.{needs}
+-- `clock::Count::goes_back` meets its contract: the upper half is what is centred negative. Assumes nothing.
 use mathlib.Core.Path.{ap, _∙_}
-use lib.IntN.{ℤ, pos}
-use lib.Signed.{ltZ}
-use Rattle.clock.specs.Clock.{goesBack}
+use Prim.Native.Nat.{ℕ, _^_}
+use borrow.Author.Needs.{needs}
+use lib.Dec.{leb}
+use lib.IntN.{pos, _-ℤ_}
+use Rattle.clock.specs.Clock.{goesBack, waitOf}
+use Rattle.clock.proofs.Wrapped.{centred-negative}
 use Rattle.clock.proofs.Count.goes_back.Statement.{statement}
 use Rattle.clock.proofs.Count.goes_back.Tie as tie
 
-between-requires : tie.Need-between-requires
-between-requires c κs = search needs
-
-negative-requires : tie.Need-negative-requires
-negative-requires c κs = search needs
+waited-requires : tie.Need-waited-requires
+waited-requires c κs = search needs
 
 returns : tie.Need-returns
-unfolding goesBack
-returns c = c .negative .ensures ∙ ap (λ (z : ℤ). ltZ z (pos 0)) (c .before .between .ensures)
+unfolding goesBack waitOf
+returns c =
+    let a = c .before .args in
+    ap (leb (2 ^ 31)) (c .waited .ensures) ∙ centred-negative (pos (a .self .0) -ℤ pos (a .last .0))
 
 pub goes-back-spec : {M : Type 1} → statement M
-goes-back-spec = tie.close (tie.spec between-requires negative-requires returns)
+goes-back-spec = tie.close (tie.spec waited-requires returns)
