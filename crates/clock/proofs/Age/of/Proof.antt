@@ -1,3 +1,4 @@
+-- `clock::Age::of` meets its contract: three steps mod 2^32, centred. Assumes nothing.
 use borrow.Author.Needs.{needs}
 use mathlib.Core.Path.{_∙_}
 use Rattle.clock.specs.Clock.{ageOf}

@@ -1,3 +1,4 @@
+-- `clock::Offset::minus_of` meets its contract: in 64 bits, which have room for 2^31. Assumes nothing.
 use borrow.Author.Needs.{needs}
 use mathlib.Core.Path.{refl}
 use native.Mathlib.Omega.{arith}

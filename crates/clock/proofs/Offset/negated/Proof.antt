@@ -1,3 +1,4 @@
+-- `clock::Offset::negated` meets its contract: a step mod 2^32, centred. Assumes nothing.
 use borrow.Author.Needs.{needs}
 use mathlib.Core.Path.{ap, _∙_}
 use lib.IntN.{pos}

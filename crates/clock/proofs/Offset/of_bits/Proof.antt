@@ -1,3 +1,4 @@
+-- `clock::Offset::of_bits` meets its contract: the lower half as it is, the upper half down by 2^32. Assumes nothing.
 use borrow.Author.Needs.{needs}
 use Prim.Native.Nat.{ℕ, _+_, _-_}
 use mathlib.Core.Path.{sym, _∙_}

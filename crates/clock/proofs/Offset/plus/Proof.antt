@@ -1,3 +1,4 @@
+-- `clock::Offset::plus` meets its contract: a step mod 2^32, centred. Assumes nothing.
 use borrow.Author.Needs.{needs}
 use mathlib.Core.Path.{_∙_}
 use Rattle.clock.proofs.Wrapped.{centred-same, wrap-add, wrapped-of}

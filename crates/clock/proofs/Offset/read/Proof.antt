@@ -1,3 +1,4 @@
+-- `clock::Offset::read` meets its contract. Assumes nothing.
 use borrow.Author.Needs.{needs}
 use Rattle.clock.proofs.Cases.{read-plus, read-minus, read-big, read-zero, read-over, read-sign}
 use Rattle.clock.proofs.Offset.read.Statement.{statement}

@@ -1,3 +1,4 @@
+-- `clock::Offset::sign_magnitude` meets its contract. Assumes nothing.
 use borrow.Author.Needs.{needs}
 use mir.Syntax.{w32}
 use mir.Val.{SFits}

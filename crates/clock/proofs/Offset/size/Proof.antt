@@ -1,3 +1,4 @@
+-- `clock::Offset::size` meets its contract: in 64 bits, which have room for 2^31. Assumes nothing.
 use borrow.Author.Needs.{needs}
 use Prim.Native.Nat.{suc}
 use mathlib.Core.Path.{_≡_, ap, _∙_, sym}
