@@ -1,16 +1,21 @@
--- Runs of stores: one more at the end, and one past the run.
+-- Runs of stores: one after another, one more at the end, and one past the run.
 -- Assumes nothing.
 use Prim.Native.Nat.{ℕ, suc, _+_, _<_, _≤_}
 use mathlib.Core.Path.{_≡_, refl, ap, _∙_, sym}
 use mathlib.Core.List.{List, [], _∷_, _++_}
 use native.Mathlib.Omega.{arith}
+use native.Mathlib.Nat.{add-zero}
 use native.Mathlib.Numerals.{add-one}
 use lib.ListN.{length, take, set, getD}
 use lib.Seq.{sets, take-suc, length-take-le, set-comm}
 
+-- to store one run after another is to store both
+pub stores-append : (a b l : List ℕ) (i : ℕ) → sets l i (a ++ b) ≡ sets (sets l i a) (i + length a) b
+stores-append [] b l i = ap (λ (k : ℕ). sets l k b) (sym (add-zero i))
+stores-append (x ∷ a) b l i = stores-append a b (set l i x) (suc i) ∙ ap (λ (k : ℕ). sets (sets (set l i x) (suc i) a) k b) (omega arith)
+
 pub snoc : (vs l : List ℕ) (i v : ℕ) → sets l i (vs ++ (v ∷ [])) ≡ set (sets l i vs) (i + length vs) v
-snoc [] l i v = ap (λ (k : ℕ). set l k v) (omega arith)
-snoc (a ∷ vs) l i v = snoc vs (set l i a) (suc i) v ∙ ap (λ (k : ℕ). set (sets (set l i a) (suc i) vs) k v) (omega arith)
+snoc vs l i v = stores-append vs (v ∷ []) l i
 
 -- a store past the run may go before it
 pub store-first : (vs l : List ℕ) (i k v : ℕ) → i + length vs ≤ k → set (sets l i vs) k v ≡ sets (set l k v) i vs

@@ -1,23 +1,18 @@
 -- The layout of a packet's bytes: the first six fields are its first 8 bytes, then come the check and the user data.
 -- Assumes nothing.
-use Prim.Native.Nat.{ℕ, suc, _+_, _≤_}
+use Prim.Native.Nat.{ℕ, _+_, _≤_}
 use mathlib.Core.Path.{_≡_, sym, ap, _∙_}
 use mathlib.Core.List.{List, [], _∷_, _++_, append-assoc, append-nil}
 use native.Mathlib.Omega.{arith}
-use native.Mathlib.Nat.{add-zero}
-use lib.ListN.{length, take, drop, set, length-append}
+use lib.ListN.{length, take, drop, length-append}
 use lib.Seq.{sets, sets-eq, take-at}
 use Rattle.field.specs.Field.{bytesOf}
 use Rattle.field.specs.Row.{rowOf}
 use Rattle.field.proofs.Field.{length-bytes}
+use Rattle.field.proofs.Stores.{stores-append}
 use Rattle.packet.specs.Sizes.{checkedBytes, checkedFields}
 use Rattle.packet.specs.Check.{checkOf}
 use Rattle.packet.specs.Packet.{widths, checkAt, checkFor}
-
--- to store one run after another is to store both
-pub stores-append : (a b l : List ℕ) (i : ℕ) → sets l i (a ++ b) ≡ sets (sets l i a) (i + length a) b
-stores-append [] b l i = ap (λ (k : ℕ). sets l k b) (sym (add-zero i))
-stores-append (x ∷ a) b l i = stores-append a b (set l i x) (suc i) ∙ ap (λ (k : ℕ). sets (sets (set l i x) (suc i) a) k b) (omega arith)
 
 module _ (counted version application number flag kind : ℕ) where
   abbrev pub six : List ℕ
