@@ -62,10 +62,14 @@ checkFailed c type t =
     eqb type 4 && not (accepts (c .min .0) (c .max .0) (t .min .0) (t .max .0) (c .settings .«t_off»))
     || eqb type 5 && eqb (t .check) 0
 
+-- the age by which a message is judged: the record has E and min
+abbrev pub messageAge : Connection → Count → Header → ℤ
+messageAge c now h = ageOf (now .0) (h .stamp .0) (c .settings .e) (c .min .0)
+
 -- 206 and 205: for type 6 only
 unfoldable pub ageNumber : Connection → Count → Header → ℕ
 ageNumber c now h =
-    when eqb (h .kind) 6 answer verdictNumber (verdictOf (ageOf (now .0) (h .stamp .0) (c .settings .e) (c .min .0)) (c .settings .«t_max»)) else
+    when eqb (h .kind) 6 answer verdictNumber (verdictOf (messageAge c now h) (c .settings .«t_max»)) else
     0
 
 -- the peer's faults of a message that is expected, in order; 0 where there is none

@@ -1,0 +1,4 @@
+pub mod TrueAge
+pub mod Answers
+pub mod History
+pub mod Demand3

@@ -1,0 +1,85 @@
+-- Demand 3: what the age of a judged message says of how old it truly is.
+use Prim.Native.Nat.{ℕ, _+_, _-_, _^_, _<_}
+use mathlib.Core.Path.{_≡_}
+use mathlib.Core.Bool.{true}
+use mathlib.Core.List.{List}
+use lib.Dec.{eqb}
+use lib.IntN.{ℤ, pos, _+ℤ_, _-ℤ_}
+use lib.Signed.{_≤ℤ_}
+use Rattle.rules.specs.Rows.{when_answer_else_}
+use Rattle.clock.specs.Clock.{verdictOf}
+use Rattle.clock.specs.declared.Verdict.the-variants.{Future, Late, Fresh}
+use Rattle.message.specs.Read.{parsedOf}
+use Rattle.message.specs.declared.Header.{Header}
+use Rattle.message.specs.declared.Tail.{Tail}
+use Rattle.message.specs.declared.Parsed.{Parsed}
+use Rattle.connection.specs.declared.Settings.{Settings}
+use Rattle.connection.specs.declared.Connection.{Connection}
+use Rattle.connection.specs.Connection.{opened}
+use Rattle.faults.specs.Faults.{messageAge}
+use Rattle.judging.specs.Judging.{offsetBetween}
+use Rattle.calls.specs.Calls.{receiveOutcome}
+use Rattle.calls.specs.Promises.{deliversTo}
+use Rattle.true_age.specs.Clocks.{World, InBand, countOf}
+use Rattle.true_age.specs.History.{Ours, Written, Judged, History}
+
+-- "OffsetStart for an initiator, OffsetAnsw1 for a responder"
+abbrev pub ownType : ℕ → ℕ
+ownType role = when eqb role 0 answer 1 else 2
+
+-- "our own set-up message whose reported arrival gave our offset": it is the first that we wrote on this connection
+pub record OwnSetUp (W : World) (began : W .Moment) (role : ℕ) (log : List (Ours W)) (t : W .Moment) (c : Connection) : Type 0 where
+  pub ours : Ours W
+  pub first : Written W 0 ours log
+  pub type : ours .header .kind ≡ ownType role
+  pub since : W .early began (ours .at)
+  pub before : W .early (ours .at) t
+  pub onward : W .early (ours .at) (W .arrived 0)
+  pub stamped : ours .header .stamp ≡ countOf (W .ours (ours .at))
+  pub gave : c .min ≡ offsetBetween (ours .header .stamp) (countOf (W .peers (W .arrived 0)))
+
+-- d: "the transit, from stamp to arrival on the peer's count"
+abbrev pub transit : (W : World) → Ours W → ℕ
+transit W ours = W .peers (W .arrived 0) - W .peers (ours .at)
+
+-- "true age taken on our count", from where the peer sent it to where we judge it
+abbrev pub trueAge : (W : World) (sent taken : W .Moment) → ℕ
+trueAge W sent taken = W .ours taken - W .ours sent
+
+-- "a message's computed age is at least its true age + E - J + d and at most its true age + E + J + d"
+pub record Bounds (true-age e j d : ℕ) (age : ℤ) : Type 0 where
+  pub least : (pos true-age +ℤ pos e -ℤ pos j +ℤ pos d) ≤ℤ age
+  pub most : age ≤ℤ (pos true-age +ℤ pos e +ℤ pos j +ℤ pos d)
+
+-- of one judged message, with E and T_max of the settings: age is the one that receive computes at the record c, and k its answer
+pub record AgeClaim (settings : Settings) (true-age j d : ℕ) (age : ℤ) (c : Connection) (k : ℕ) : Type 0 where
+  pub bounds : Bounds true-age (settings .e) j d age
+  -- the answer goes by this age
+  pub fresh-by-age : deliversTo c k ≡ true → verdictOf age (settings .«t_max») ≡ Fresh
+  pub late-by-age : k ≡ 205 → verdictOf age (settings .«t_max») ≡ Late
+  pub future-by-age : k ≡ 206 → verdictOf age (settings .«t_max») ≡ Future
+  -- "no such message handed up is truly older than T_max - E + J - d"
+  pub handed-up : deliversTo c k ≡ true → pos true-age ≤ℤ (pos (settings .«t_max») -ℤ pos (settings .e) +ℤ pos j -ℤ pos d)
+  -- "late is given to one only when true age + E + J + d exceeds T_max"
+  pub late : k ≡ 205 → settings .«t_max» < true-age + settings .e + j + d
+  -- and 206 only when true age + E + d is under J
+  pub future : k ≡ 206 → true-age + settings .e + d < j
+
+-- demand 3, of the next receive on an open record, at a moment u: m is what is supposed of its message
+pub record Claim (W : World) (began : W .Moment) (j role : ℕ) (settings : Settings) (log : List (Ours W)) (t : W .Moment) (c : Connection)
+    (u : W .Moment) (message : List ℕ) (room : ℕ) (h : Header) (m : Judged W began log u h) : Type 0 where
+  -- E and T_max are the ones configured at begin
+  pub same-settings : c .settings ≡ settings
+  pub own : OwnSetUp W began role log t c
+  -- "with true age + E + J + d below 2^31"
+  pub age : (first : Ours W) → Written W 0 first log → trueAge W (m .sent) u + settings .e + j + transit W first < 2 ^ 31
+      → AgeClaim settings (trueAge W (m .sent) u) j (transit W first) (messageAge c (countOf (W .ours u)) h)
+      c (receiveOutcome c (countOf (W .ours u)) message room .answer)
+
+-- the next receive gets our count as its now, at a moment no earlier than the last call; any room, and any bytes that are a message
+abbrev pub Demand3 : Type 1
+Demand3 =
+    (W : World) (began : W .Moment) (j role : ℕ) (settings : Settings) (log : List (Ours W)) (t : W .Moment) (c : Connection) → History W began role settings log t c
+    → c .phase ≡ opened
+    → (u : W .Moment) → W .early t u → InBand W began u j → (message : List ℕ) (room : ℕ) (h : Header) (s : Tail) → parsedOf message ≡ Parsed.Whole h s
+    → (m : Judged W began log u h) → Claim W began j role settings log t c u message room h m
