@@ -1,7 +1,8 @@
 //! Random histories of connection calls from random records on, from fixed seeds, also faulty ones and short out buffers.
 
-use crate::connection::{self, Answer, Record};
+use crate::connection::{self, Answer, Record, Settings};
 use crate::craft;
+use crate::given::Fields;
 use crate::random::Random;
 use crate::replay::{self, BEGIN, RECEIVE, SEND, TICK};
 use crate::streams::hex;
@@ -108,12 +109,10 @@ fn call_bytes(record: &Record, crafted: &craft::Crafted, room: usize) -> Vec<u8>
     bytes
 }
 
-/// The bytes and the line of one call, and the record that it leaves; the out buffer past what is written must have stayed.
-fn some_trial(random: &mut Random, record: Record) -> (Vec<u8>, String, Record) {
-    let crafted = craft::some_call(random, &record);
-    let room = some_room(random, crafted.kind, &crafted.bytes);
+/// The line of one call, and the record that it leaves; the out buffer past what is written must have stayed.
+fn line_of(record: Record, crafted: &craft::Crafted, room: usize) -> (String, Record) {
     let mut out = vec![BEFORE; room];
-    let (after, answer) = played(record, &crafted, &mut out);
+    let (after, answer) = played(record, crafted, &mut out);
     let (written, stayed) = out.split_at(answer.written);
     assert!(stayed.iter().all(|byte| *byte == BEFORE), "bytes past what is written changed");
     let delivered = &crafted.bytes[answer.delivered.clone()];
@@ -124,7 +123,45 @@ fn some_trial(random: &mut Random, record: Record) -> (Vec<u8>, String, Record) 
         record_text(&record), call_name(crafted.kind), crafted.now, hex(&crafted.bytes), answer.number, u8::from(answer.released),
         hex(written), delivered_at, hex(delivered), record_text(&after)
     );
+    (line, after)
+}
+
+/// The bytes and the line of one call, and the record that it leaves.
+fn some_trial(random: &mut Random, record: Record) -> (Vec<u8>, String, Record) {
+    let crafted = craft::some_call(random, &record);
+    let room = some_room(random, crafted.kind, &crafted.bytes);
+    let (line, after) = line_of(record, &crafted, room);
     (call_bytes(&record, &crafted, room), line, after)
+}
+
+/// The line of the call at the front of a file's rest, and the rest after it; None where no whole call is there.
+pub fn given(rest: &[u8]) -> Option<(String, &[u8])> {
+    let mut fields = Fields(rest);
+    let record = Record {
+        phase: fields.byte()?,
+        settings: Settings {
+            n: fields.number()?,
+            t_max: fields.count()?,
+            e: fields.count()?,
+            t_start: fields.count()?,
+            t_off: fields.count()?,
+            limit: fields.byte()?,
+        },
+        own_next_number: fields.number()?,
+        period: fields.count()?,
+        last_number: fields.number()?,
+        peer_stamp: fields.count()?,
+        arrival: fields.count()?,
+        wait_start: fields.count()?,
+        min: fields.count()? as i32,
+        max: fields.count()? as i32,
+        errors: fields.byte()?,
+        clock: fields.count()?,
+    };
+    let (kind, now) = (fields.byte()?, fields.count()?);
+    let (room, length) = (usize::from(fields.number()?), usize::from(fields.number()?));
+    let crafted = craft::Crafted { kind, now, bytes: fields.bytes(length)?.to_vec() };
+    Some((line_of(record, &crafted, room).0, fields.0))
 }
 
 /// So many random calls, the bytes and the line of each: histories of calls, each on the record that the call before left, from a random record on.

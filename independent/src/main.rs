@@ -4,6 +4,7 @@ mod annex;
 mod calls;
 mod connection;
 mod craft;
+mod given;
 mod links;
 mod message;
 mod messages;
@@ -29,6 +30,7 @@ independent steps SEED COUNT [FILE]   random single steps; with FILE, what goes 
 independent messages SEED COUNT [FILE]  rounds of random messages, likewise
 independent calls SEED COUNT [FILE]   random single connection calls, likewise
 independent traces SEED COUNT DIR     random traces
+independent given steps|messages|calls|packets FILE  what comes out for the inputs of a file
 independent selftest                  the program's own tests";
 
 fn main() -> ExitCode {
@@ -67,10 +69,11 @@ fn run(words: &[&str]) -> Result<bool, String> {
         ["steps", seed, count] => print_lines(streams::STEPS_HEADER, steps(seed, count)?.map(|trial| trial.line())),
         ["steps", seed, count, name] => both(name, steps(seed, count)?.map(|trial| (trial.bytes(), trial.printed()))),
         ["messages", seed, count] => print_lines(messages::HEADER, messages(seed, count)?.map(|bytes| messages::line_of(&bytes))),
-        ["messages", seed, count, name] => both(name, messages(seed, count)?.map(|bytes| (messages::file_bytes(&bytes), came_out(&messages::line_of(&bytes))))),
+        ["messages", seed, count, name] => both(name, messages(seed, count)?.map(|bytes| (messages::file_bytes(&bytes), given::came_out(&messages::line_of(&bytes))))),
         ["calls", seed, count] => print_lines(calls::HEADER, calls(seed, count)?.map(|(_, line)| line)),
-        ["calls", seed, count, name] => both(name, calls(seed, count)?.map(|(bytes, line)| (bytes, came_out(&line)))),
+        ["calls", seed, count, name] => both(name, calls(seed, count)?.map(|(bytes, line)| (bytes, given::came_out(&line)))),
         ["traces", seed, count, folder] => traces_to(number(seed)?, number(count)? as usize, Path::new(folder)),
+        ["given", kind, name] => print_all(given::lines(kind, &file(name)?)?.into_iter().map(|line| line + "\n")),
         ["selftest"] => {
             let tests = selftest::all();
             println!("{} cases, {} failed", tests.cases, tests.failed);
@@ -129,11 +132,6 @@ fn both(name: &str, made: impl Iterator<Item = (Vec<u8>, String)>) -> Result<boo
     }
     std::fs::write(name, given).map_err(|fault| format!("{name}: {fault}"))?;
     print_all(wanted)
-}
-
-/// What stands after the first ` = ` of a line.
-fn came_out(line: &str) -> String {
-    line.split_once(" = ").map_or(String::new(), |(_, out)| out.to_string())
 }
 
 fn type_line(row: &packet::PacketType) -> String {

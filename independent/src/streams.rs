@@ -1,5 +1,6 @@
 //! Random pairs of link bytes, and random single steps, from fixed seeds.
 
+use crate::given::Fields;
 use crate::links::{self, Role, State};
 use crate::packet::{self, Link, Packet};
 use crate::random::Random;
@@ -343,6 +344,19 @@ impl Trial {
         let first = format!("{} {} {} {} {} {}", step.link.name(), step.answer, step.used, taken.kind, taken.number, taken.data.len());
         format!("{first}\nstate {} {} {} {start}", state_text(&after), taken.version, taken.application)
     }
+}
+
+/// The step at the front of a file's rest, and the rest after it; None where no whole step is there.
+pub fn given(rest: &[u8]) -> Option<(Trial, &[u8])> {
+    let mut fields = Fields(rest);
+    let (flags, last) = (fields.byte()?, fields.number()?);
+    let (normal_place, redundant_place) = (fields.count()? as usize, fields.count()? as usize);
+    let (normal, redundant) = (usize::from(fields.number()?), usize::from(fields.number()?));
+    let set = |bit: u8| flags >> bit & 1 == 1;
+    let role = if set(2) { Role::Responder } else { Role::Initiator };
+    let state = State { normal_up: set(0), redundant_up: set(1), role, strict: set(3), first: set(4), last };
+    let trial = Trial { state, normal: fields.bytes(normal)?.to_vec(), normal_place, redundant: fields.bytes(redundant)?.to_vec(), redundant_place };
+    Some((trial, fields.0))
 }
 
 fn taken_of<'a>(step: &links::Step<'a>) -> Packet<'a> {

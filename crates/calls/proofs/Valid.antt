@@ -5,7 +5,7 @@ use mathlib.Core.Path.{_≡_, refl, sym, subst, _∙_}
 use mathlib.Core.Bool.{Bool, true, false, not, _&&_, _||_}
 use mathlib.Core.List.{List}
 use mathlib.Core.Logic.{inl, inr}
-use borrow.Author.Tests.{ltb-false, lt-leb, eq-eqb}
+use borrow.Author.Tests.{lt-leb, eq-eqb}
 use lib.Dec.{T, ltb, leb, eqb, lit<}
 use Rattle.rules.specs.Rows.{when_answer_else_}
 use Rattle.clock.specs.declared.Count.{Count}
@@ -29,6 +29,7 @@ use Rattle.connection.specs.Connection.{
   waiting,
   begun,
 }
+use Rattle.connection.proofs.Ranges.{or-off, in-range}
 use Rattle.judging.specs.declared.Outcome.{Outcome}
 use Rattle.judging.specs.Judging.{keeps, sends, startTaken, answ1Taken, answ2Taken, estTaken, endTaken, dataTaken, takenOf, refuses, raises}
 use Rattle.calls.specs.Calls.{
@@ -50,10 +51,6 @@ use Rattle.calls.specs.Promises.{Valid, Stays}
 use Rattle.calls.proofs.Replies.{both, none-refused, row-off, then-off}
 use Rattle.calls.proofs.Promises.{Leaves, receive-by, tick-by}
 
-or-off : (a b : Bool) → a || b ≡ false → (a ≡ false) × (b ≡ false)
-or-off true b e = absurd (subst T e tt)
-or-off false b e = (refl, e)
-
 no-way : {X : Type 0} → true ≡ false → X
 no-way e = absurd (subst T e tt)
 
@@ -64,18 +61,12 @@ record Sound (c : Connection) : Type 0 where
   errors : leb (c .settings .limit) (c .errors) ≡ false
   limit : 1 ≤ c .settings .limit
 
-limit-in : (s : Settings) → outOfRange s ≡ false → 1 ≤ s .limit
-unfolding outOfRange _outside_to_
-limit-in s e =
-    let a = or-off ((s .n) outside 1 to 1000 || (s .«t_max») outside 1 to 60000 || (s .e) outside 0 to (s .«t_max») || (s .«t_start») outside 1 to 60000 || (s .«t_off») outside 0 to 60000) ((s .limit) outside 1 to 255) e in
-    ltb-false (s .limit) 1 (or-off (ltb (s .limit) 1) (ltb 255 (s .limit)) (a .1) .0)
-
 sound-of : (c : Connection) → unsound c ≡ false → Sound c
 unfolding unsound
 sound-of c e =
     let a = or-off (outOfRange (c .settings) || (c .phase) outside 1 to 6) (leb (c .settings .limit) (c .errors)) e in
     let b = or-off (outOfRange (c .settings)) ((c .phase) outside 1 to 6) (a .0) in
-    record { settings = b .0; phase = b .1; errors = a .1; limit = limit-in (c .settings) (b .0) }
+    record { settings = b .0; phase = b .1; errors = a .1; limit = in-range (c .settings) (b .0) .limit }
 
 sound-is : (c : Connection) → outOfRange (c .settings) ≡ false → (c .phase) outside 1 to 6 ≡ false → leb (c .settings .limit) (c .errors) ≡ false
     → unsound c ≡ false
@@ -186,10 +177,10 @@ pub begin-stays : (c : Connection) (role : ℕ) (settings : Settings) (first per
 unfolding beginOutcome beginRefusal _outside_to_
 begin-stays c role settings first period now room v =
     both Stays (not (eqb (beginRefusal c role settings room) 0)) _ _ (λ _. goes-on refl v)
-    (λ e. go (in-range (none-refused (beginRefusal c role settings room) e)))
+    (λ e. go (settings-in (none-refused (beginRefusal c role settings room) e)))
   where
-    in-range : beginRefusal c role settings room ≡ 0 → outOfRange settings ≡ false
-    in-range e =
+    settings-in : beginRefusal c role settings room ≡ 0 → outOfRange settings ≡ false
+    settings-in e =
         let a = row-off (bad c) 101 _ (lit< tt) e in
         let b = row-off (not (eqb (c .phase) closed)) 103 _ (lit< tt) (a .1) in
         let d = row-off (ltb 1 role || outOfRange settings) 104 _ (lit< tt) (b .1) in
@@ -200,8 +191,8 @@ begin-stays c role settings first period now room v =
         else keeps 0 0 (begun settings responderWaitsFor1 first period now))
     go s =
         both Stays (eqb role 0) _ _
-        (λ _. goes-on refl (inr (sound-is _ s refl (lt-leb (settings .limit) 0 (limit-in settings s)))))
-        (λ _. goes-on refl (inr (sound-is _ s refl (lt-leb (settings .limit) 0 (limit-in settings s)))))
+        (λ _. goes-on refl (inr (sound-is _ s refl (lt-leb (settings .limit) 0 (in-range settings s .limit)))))
+        (λ _. goes-on refl (inr (sound-is _ s refl (lt-leb (settings .limit) 0 (in-range settings s .limit)))))
 
 -- a closed or valid record never has the record's 101
 pub valid-is-not-bad : (c : Connection) → Valid c → bad c ≡ false

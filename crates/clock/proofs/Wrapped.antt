@@ -14,7 +14,7 @@ use mir.Facts.{toZ-ofZ}
 use Rattle.rules.specs.Modulo.{modulo}
 use Rattle.rules.specs.Rows.{when_answer_else_}
 use Rattle.rules.proofs.Integers.{up, dn, same, sum-is, less-is, neg-up, neg-dn, less-pos}
-use Rattle.clock.specs.Clock.{wrapped, centred}
+use Rattle.clock.specs.Clock.{wrapped, centred, goesBack, waitOf}
 
 -- in range: -2^31 ≤ z < 2^31
 pub range-up : (z : ℤ) → mag z < 2 ^ 31 → up z < 2 ^ 31
@@ -193,3 +193,8 @@ is-below {z} f t = below-zero z (rw (toZ-ofZ f) at t)
 
 pub is-from : {z : ℤ} → SFits w32 z → ltZ (toZ w32 (ofZ w32 z)) (pos 0) ≡ false → z ≡ pos (mag z)
 is-from {z} f t = from-zero z (rw (toZ-ofZ f) at t)
+
+-- ---- a clock that went on by less than 2^31 does not go back
+pub waited-goes-on : (now since : ℕ) → waitOf now since < 2 ^ 31 → goesBack now since ≡ false
+unfolding waitOf goesBack
+waited-goes-on now since h = sym (centred-negative (pos now -ℤ pos since)) ∙ lt-leb (2 ^ 31) (wrapped (pos now -ℤ pos since)) h

@@ -1,4 +1,5 @@
-// The worked numbers of document 01 that concern clocks, numbers and fields: promised of the functions, then run and printed.
+// The worked numbers of document 01 that concern clocks, numbers and fields: promised of the functions, then run and printed. All starred lines
+// stand in the table of specs/Worked.
 ghost use mathlib.Core.Path.{_≡_};
 ghost use lib.IntN.{pos, negsuc, _-ℤ_};
 ghost use Rattle.clock.specs.Clock.{centred, ageOf};

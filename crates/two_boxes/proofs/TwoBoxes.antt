@@ -1,0 +1,509 @@
+-- Two boxes of ours, joined, do open.
+-- Assumes nothing.
+use Prim.Native.Nat.{ℕ, suc, _+_, _-_, _^_, _≤_, _<_}
+use mathlib.Core.Path.{_≡_, refl, ap, _∙_}
+use mathlib.Core.Bool.{Bool, true, false, not, _||_}
+use mathlib.Core.List.{List, []}
+use native.Mathlib.Omega.{arith}
+use borrow.Author.Tests.{lt-ltb, le-ltb, le-leb, lt-leb, eq-eqb, ne-eqb}
+use lib.Dec.{ltb, leb, eqb, lit<, lit≤, ltb→lt}
+use lib.IntN.{pos, negsuc, natAbs, _+ℤ_, _-ℤ_}
+use lib.ListN.{length, take, drop}
+use lib.Seq.{sets, sets-eq, take-append-seam}
+use lib.Signed.{mag}
+use Rattle.rules.specs.Modulo.{modulo}
+use Rattle.rules.specs.Rows.{when_answer_else_}
+use Rattle.rules.proofs.Integers.{cond-both, sum-is, less-is, less-pos}
+use Rattle.clock.specs.Clock.{wrapped, centred, goesBack, waitOf}
+use Rattle.clock.specs.declared.Count.{Count}
+use Rattle.clock.specs.declared.Offset.{Offset}
+use Rattle.clock.proofs.Wrapped.{≈-sum, ≈-less, ≈-sym, ≈-trans, wrapped-≈, centred-≈, centred-is, centred-range, centred-same, waited-goes-on}
+use Rattle.number.specs.Number.{distanceOf, nextOf}
+use Rattle.number.proofs.Following.{next-fits, distance-next}
+use Rattle.message.specs.Layout.{periodTail, emptyTail, offsetsTail, checkTail}
+use Rattle.message.specs.Table.{tableOf, lists, totalOf}
+use Rattle.message.specs.Read.{laterStamp, checkOver, parsedOf}
+use Rattle.message.specs.Write.{messageBytes, allowedOf}
+use Rattle.message.specs.RoundTrip.{Ranges, Allowed}
+use Rattle.message.proofs.Rows.{and-false}
+use Rattle.message.proofs.RoundTrip.{totals, written-reads-back}
+use Rattle.message.specs.declared.Header.{Header}
+use Rattle.message.specs.declared.Tail.{Tail}
+use Rattle.message.specs.declared.Parsed.{Parsed}
+use Rattle.connection.specs.declared.Connection.{Connection}
+use Rattle.connection.specs.Connection.{closed, initiatorWaitsFor2, initiatorWaitsFor4, responderWaitsFor1, responderWaitsFor3, responderWaitsFor5, opened, _outside_to_, outOfRange, unsound, clocked, heard, sent, waiting, withOffsets, begun}
+use Rattle.connection.proofs.Ranges.{in-range}
+use Rattle.faults.specs.declared.Expectation.the-variants.{Expected}
+use Rattle.judging.specs.declared.Reply.{Reply}
+use Rattle.judging.specs.declared.Reply.the-variants.{Send}
+use Rattle.judging.specs.declared.Outcome.{Outcome}
+use Rattle.faults.specs.Faults.{expectationOf, numberJudged, dropped, tooFar, gap, wrongEcho, accepts, checkFailed, ageNumber, faultOf}
+use Rattle.judging.specs.Judging.{keeps, releases, sends, minOf, maxOf, replyHeader, answered, noWait, startTaken, answ1Taken, answ2Taken, estTaken, endTaken, takenOf, refuses, followsOf, stepOf}
+use Rattle.calls.specs.Calls.{
+  bad,
+  closeRefusal,
+  tickRefusal,
+  receiveRefusal,
+  beginRefusal,
+  timed,
+  expired,
+  receiveOutcome,
+  startHeader,
+  beginOutcome,
+  replyBytes,
+}
+use Rattle.two_boxes.specs.TwoBoxes.{
+  Boxes,
+  sentBy,
+  begins,
+  waits,
+  getsStart,
+  getsAnsw1,
+  getsAnsw2,
+  getsEst,
+  getsEnd,
+  sizeOfMinPlusPeersMax,
+  Joined,
+  UpToEst,
+  BothOpen,
+  BothReleased,
+  TwoBoxesOpen,
+  TwoBoxesRelease,
+  SizeIsOfWaits,
+  TwoBoxesOpenInTime,
+  worked,
+  WorkedPair,
+}
+
+or-none : (a : Bool) → a || false ≡ a
+or-none true = refl
+or-none false = refl
+
+-- ---- the bytes
+
+-- what a call sends stands at the start of its out buffer
+sent-bytes : (o : Outcome) (h : Header) (t : Tail) (out : List ℕ) → o .reply ≡ Send h t → length (messageBytes h t []) ≤ length out
+    → sentBy o out ≡ messageBytes h t []
+sent-bytes o h t out e r =
+    ap (λ (x : Reply). take (length (replyBytes x [])) (sets out 0 (replyBytes x []))) e
+    ∙ ap (take (length (messageBytes h t []))) (sets-eq (messageBytes h t []) out 0 (omega arith))
+    ∙ take-append-seam (messageBytes h t []) (drop (0 + length (messageBytes h t [])) out)
+
+sent-reads : (o : Outcome) (h : Header) (t : Tail) (out : List ℕ) → o .reply ≡ Send h t → length (messageBytes h t []) ≤ length out
+    → Ranges h t → Allowed h t [] → parsedOf (sentBy o out) ≡ Parsed.Whole h t
+sent-reads o h t out e r f a = ap parsedOf (sent-bytes o h t out e r) ∙ written-reads-back h t f [] a
+
+-- ---- a receive that is refused nothing, and whose wait runs: the message is judged
+
+-- of a record that our own calls left in set-up
+record Live (c : Connection) : Type 0 where
+  settings : outOfRange (c .settings) ≡ false
+  not-closed : eqb (c .phase) closed ≡ false
+  phase : (c .phase) outside 1 to 6 ≡ false
+  errors : c .errors ≡ 0
+
+no-refusal : (c : Connection) (now : Count) (room : ℕ) → Live c → goesBack (now .0) (c .clock .0) ≡ false → 25 ≤ room → receiveRefusal c now room ≡ 0
+unfolding receiveRefusal tickRefusal closeRefusal bad unsound
+no-refusal c now room l g r =
+    rw (l .not-closed, l .phase, l .settings, l .errors, lt-leb (c .settings .limit) 0 (in-range (c .settings) (l .settings) .limit), g, le-ltb room 25 r)
+
+module _ (c : Connection) (now : Count) (message : List ℕ) (room : ℕ) (h : Header) (t : Tail) (l : Live c) (r : 25 ≤ room)
+    (p : parsedOf message ≡ Parsed.Whole h t) (x : expectationOf (c .phase) (h .kind) ≡ Expected) (k : ℕ) (f : faultOf c now h t ≡ k) where
+  judged : goesBack (now .0) (c .clock .0) ≡ false → expired c now ≡ false → receiveOutcome c now message room ≡ followsOf c now h t k
+  unfolding receiveOutcome stepOf
+  judged g e = rw (no-refusal c now room l g r, e, p, x, f)
+
+  -- a wait that began with the last call, and is within T_start
+  judged-in-time : c .clock .0 ≡ c .«wait_start» .0 → waitOf (now .0) (c .«wait_start» .0) < c .settings .«t_start»
+      → receiveOutcome c now message room ≡ followsOf c now h t k
+  unfolding expired
+  judged-in-time e w =
+      judged (rw e (waited-goes-on (now .0) (c .«wait_start» .0) (omega (arith, in-range (c .settings) (l .settings) .«t_start»))))
+      (rw (lt-leb (c .settings .«t_start») (waitOf (now .0) (c .«wait_start» .0)) w) (and-false (timed (c .phase))))
+
+-- of messages 3 to 5: where d is 1 and the echo is right, the clock check decides
+check-decides : (c : Connection) (now : Count) (h : Header) (t : Tail) → 3 ≤ h .kind → h .kind ≤ 5 → distanceOf (h .number) (c .«last_number») ≡ 1
+    → outOfRange (c .settings) ≡ false → h .«last_peer_stamp» .0 ≡ c .«wait_start» .0 → (k : Bool) → checkFailed c (h .kind) t ≡ k
+    → faultOf c now h t ≡ (when k answer 209 else 0)
+unfolding faultOf dropped tooFar gap numberJudged wrongEcho ageNumber
+check-decides c now h t l u d s e k f =
+    let six : eqb (h .kind) 6 ≡ false = ne-eqb (h .kind) 6 (λ q. omega arith) in
+    simp (
+      d,
+      f,
+      six,
+      lt-ltb 2 (h .kind) l,
+      le-ltb (c .settings .n) 1 (in-range (c .settings) s .n),
+      le-leb 2 (h .kind) (omega arith),
+      le-leb (h .kind) 5 u,
+      eq-eqb (h .«last_peer_stamp» .0) (c .«wait_start» .0) e,
+    )
+
+-- ---- the clock check of two boxes of ours
+
+-- the difference of two numbers under 2^31 is in range
+less-range : (a b : ℕ) → a < 2 ^ 31 → b < 2 ^ 31 → mag (pos a -ℤ pos b) < 2 ^ 31
+less-range a b h k =
+    rw (less-pos a b) (cond-both (ltb a b) (negsuc (b - suc a)) (pos (a - b)) (λ z. mag z < 2 ^ 31) (λ _. omega arith) (λ _. omega arith))
+
+module _ (i1 i2 r1 r3 : ℕ) where
+  -- its max + peer's min is 0
+  sum-is-0 : centred (centred (pos i2 -ℤ pos r1) +ℤ centred (pos r1 -ℤ pos i2)) ≡ pos 0
+  sum-is-0 =
+      centred-is (centred (pos i2 -ℤ pos r1) +ℤ centred (pos r1 -ℤ pos i2)) (pos 0)
+      (≈-trans {b = (pos i2 -ℤ pos r1) +ℤ (pos r1 -ℤ pos i2)}
+      (record { on = 0; off = 0; apart = omega (arith, sum-is (pos i2 -ℤ pos r1) (pos r1 -ℤ pos i2), less-is (pos i2) (pos r1), less-is (pos r1) (pos i2)) })
+      (≈-sym (≈-sum (centred-≈ (pos i2 -ℤ pos r1)) (centred-≈ (pos r1 -ℤ pos i2)))))
+      (lit< tt)
+
+  -- its max - its min is what it waited
+  max-less-min : centred (centred (pos i2 -ℤ pos r1) -ℤ centred (pos i1 -ℤ pos r1)) ≡ centred (pos i2 -ℤ pos i1)
+  max-less-min =
+      centred-same
+      (≈-trans {b = (pos i2 -ℤ pos r1) -ℤ (pos i1 -ℤ pos r1)} (≈-less (centred-≈ (pos i2 -ℤ pos r1)) (centred-≈ (pos i1 -ℤ pos r1)))
+      (record { on = 0; off = 0; apart = omega (arith, less-is (pos i2 -ℤ pos r1) (pos i1 -ℤ pos r1), less-is (pos i2) (pos r1), less-is (pos i1) (pos r1), less-is (pos i2) (pos i1)) }))
+
+  accepted-by : (t-off : ℕ) → goesBack i2 i1 ≡ false
+      → accepts (centred (pos i1 -ℤ pos r1)) (centred (pos i2 -ℤ pos r1)) (centred (pos r1 -ℤ pos i2)) (centred (pos r3 -ℤ pos i2)) t-off
+      ≡ leb (natAbs (centred (centred (pos i1 -ℤ pos r1) +ℤ centred (pos r3 -ℤ pos i2)))) t-off
+  unfolding accepts goesBack
+  accepted-by t-off g = rw (sum-is-0, max-less-min, g)
+
+  -- its min + peer's max is what the peer waited less what it waited
+  difference-of-waits : waitOf r3 r1 < 2 ^ 31 → waitOf i2 i1 < 2 ^ 31
+      → centred (centred (pos i1 -ℤ pos r1) +ℤ centred (pos r3 -ℤ pos i2)) ≡ pos (waitOf r3 r1) -ℤ pos (waitOf i2 i1)
+  unfolding waitOf
+  difference-of-waits h k =
+      centred-is (centred (pos i1 -ℤ pos r1) +ℤ centred (pos r3 -ℤ pos i2)) (pos (wrapped (pos r3 -ℤ pos r1)) -ℤ pos (wrapped (pos i2 -ℤ pos i1)))
+      (≈-trans {b = (pos r3 -ℤ pos r1) -ℤ (pos i2 -ℤ pos i1)} (≈-less (wrapped-≈ (pos r3 -ℤ pos r1)) (wrapped-≈ (pos i2 -ℤ pos i1)))
+      (≈-trans {b = (pos i1 -ℤ pos r1) +ℤ (pos r3 -ℤ pos i2)}
+      (record {
+        on = 0;
+        off = 0;
+        apart = omega (
+          arith,
+          less-is (pos r3 -ℤ pos r1) (pos i2 -ℤ pos i1),
+          sum-is (pos i1 -ℤ pos r1) (pos r3 -ℤ pos i2),
+          less-is (pos r3) (pos r1),
+          less-is (pos i2) (pos i1),
+          less-is (pos i1) (pos r1),
+          less-is (pos r3) (pos i2),
+        );
+      })
+      (≈-sym (≈-sum (centred-≈ (pos i1 -ℤ pos r1)) (centred-≈ (pos r3 -ℤ pos i2))))))
+      (less-range (wrapped (pos r3 -ℤ pos r1)) (wrapped (pos i2 -ℤ pos i1)) h k)
+
+-- ---- the first message of a peer has no fault but a wrong echo
+
+no-fault-1 : (c : Connection) (now : Count) (h : Header) (t : Tail) → h .kind ≡ 1 → faultOf c now h t ≡ 0
+unfolding faultOf dropped tooFar gap numberJudged wrongEcho checkFailed ageNumber
+no-fault-1 c now h t k = rw k
+
+no-fault-2 : (c : Connection) (now : Count) (h : Header) (t : Tail) → h .kind ≡ 2 → h .«last_peer_stamp» .0 ≡ c .«wait_start» .0 → faultOf c now h t ≡ 0
+unfolding faultOf dropped tooFar gap numberJudged wrongEcho checkFailed ageNumber
+no-fault-2 c now h t k e = rw (k, eq-eqb (h .«last_peer_stamp» .0) (c .«wait_start» .0) e)
+
+-- ---- what 01's table allows
+
+start-allowed : (first : ℕ) (now : Count) (period : ℕ) → Allowed (startHeader first now) (periodTail period) []
+unfolding allowedOf tableOf lists totalOf laterStamp checkOver
+start-allowed first now period = record { by-table = refl; only = refl }
+
+answ1-allowed : (c : Connection) (now : Count) (h : Header) (period : ℕ) → Allowed (replyHeader 2 c now h) (periodTail period) []
+unfolding allowedOf tableOf lists totalOf laterStamp checkOver
+answ1-allowed c now h period = record { by-table = refl; only = refl }
+
+answ2-allowed : (c : Connection) (now : Count) (h : Header) → Allowed (replyHeader 3 c now h) emptyTail []
+unfolding allowedOf tableOf lists totalOf laterStamp checkOver
+answ2-allowed c now h = record { by-table = refl; only = refl }
+
+est-allowed : (c : Connection) (now : Count) (h : Header) (min max : Offset) → Allowed (replyHeader 4 c now h) (offsetsTail min max) []
+unfolding allowedOf tableOf lists totalOf laterStamp checkOver
+est-allowed c now h min max = record { by-table = refl; only = refl }
+
+end-allowed : (c : Connection) (now : Count) (h : Header) (check : ℕ) → check ≤ 1 → Allowed (replyHeader 5 c now h) (checkTail check) []
+unfolding allowedOf tableOf lists totalOf laterStamp checkOver
+end-allowed c now h check l = record { by-table = rw (le-ltb 1 check l); only = refl }
+
+-- ---- the five messages, and the records that the calls leave
+
+module _ (b : Boxes) where
+  abbrev start : Header
+  start = startHeader (b .initiator .first) (b .i1)
+
+  abbrev sentStart : Connection
+  sentStart = waiting (sent (begun (b .initiator .settings) initiatorWaitsFor2 (b .initiator .first) (b .initiator .period) (b .i1))) initiatorWaitsFor2 (b .i1)
+
+  abbrev waitsForStart : Connection
+  waitsForStart = begun (b .responder .settings) responderWaitsFor1 (b .responder .first) (b .responder .period) (b .r0)
+
+  abbrev answ1 : Header
+  answ1 = replyHeader 2 waitsForStart (b .r1) start
+
+  abbrev sentAnsw1 : Connection
+  sentAnsw1 = answered waitsForStart (b .r1) start responderWaitsFor3
+
+  abbrev answ2 : Header
+  answ2 = replyHeader 3 sentStart (b .i2) answ1
+
+  abbrev sentAnsw2 : Connection
+  sentAnsw2 = withOffsets (answered sentStart (b .i2) answ1 initiatorWaitsFor4) (minOf sentStart answ1) (maxOf (b .i2) answ1)
+
+  abbrev est : Header
+  est = replyHeader 4 sentAnsw1 (b .r3) answ2
+
+  abbrev estTail : Tail
+  estTail = offsetsTail (minOf sentAnsw1 answ2) (maxOf (b .r3) answ2)
+
+  abbrev sentEst : Connection
+  sentEst = withOffsets (answered sentAnsw1 (b .r3) answ2 responderWaitsFor5) (minOf sentAnsw1 answ2) (maxOf (b .r3) answ2)
+
+  abbrev end : Header
+  end = replyHeader 5 sentAnsw2 (b .i4) est
+
+  abbrev initiatorOpen : Connection
+  initiatorOpen = waiting (sent (heard (clocked sentAnsw2 (b .i4)) est (b .i4))) opened noWait
+
+  abbrev responderOpen : Connection
+  responderOpen = waiting (heard (clocked sentEst (b .r5)) end (b .r5)) opened noWait
+
+module _ (b : Boxes) (j : Joined b) where
+  -- ---- the begins
+
+  begins-is : begins b ≡ sends (start b) (periodTail (b .initiator .period)) (sentStart b)
+  unfolding begins beginOutcome beginRefusal bad
+  begins-is = rw (j .initiator .slot-closed, j .initiator .in-range, le-ltb (length (b .out .start)) 19 (j .room-for-start))
+
+  waits-is : waits b ≡ keeps 0 0 (waitsForStart b)
+  unfolding waits beginOutcome beginRefusal bad
+  waits-is = rw (j .responder .slot-closed, j .responder .in-range)
+
+  -- ---- OffsetStart arrives
+
+  start-reads : parsedOf (sentBy (begins b) (b .out .start)) ≡ Parsed.Whole (start b) (periodTail (b .initiator .period))
+  start-reads =
+      sent-reads (begins b) (start b) (periodTail (b .initiator .period)) (b .out .start) (ap (λ (o : Outcome). o .reply) begins-is)
+      (omega (arith, totals (start b) (periodTail (b .initiator .period)) [] .0 refl, j .room-for-start))
+      (record { kind = lit< tt; number = j .initiator .first; stamp = j .i1; «last_peer_stamp» = lit< tt; arrival = lit< tt; period = j .initiator .period; min = lit< tt; max = lit< tt; check = lit< tt })
+      (start-allowed (b .initiator .first) (b .i1) (b .initiator .period))
+
+  gets-start-is : getsStart b ≡ sends (answ1 b) (periodTail (b .responder .period)) (sentAnsw1 b)
+  unfolding getsStart expectationOf followsOf takenOf startTaken expired timed _outside_to_
+  gets-start-is =
+      ap (λ (o : Outcome). receiveOutcome (o .next) (b .r1) (sentBy (begins b) (b .out .start)) (length (b .out .answ1))) waits-is
+      ∙ judged (waitsForStart b) (b .r1) (sentBy (begins b) (b .out .start)) (length (b .out .answ1)) (start b) (periodTail (b .initiator .period))
+      (record { settings = j .responder .in-range; not-closed = refl; phase = refl; errors = refl }) (j .room-for-answ1) start-reads refl
+      0 (no-fault-1 (waitsForStart b) (b .r1) (start b) (periodTail (b .initiator .period)) refl)
+      (j .responder-first) refl
+
+  -- ---- OffsetAnsw1 arrives
+
+  answ1-reads : parsedOf (sentBy (getsStart b) (b .out .answ1)) ≡ Parsed.Whole (answ1 b) (periodTail (b .responder .period))
+  answ1-reads =
+      sent-reads (getsStart b) (answ1 b) (periodTail (b .responder .period)) (b .out .answ1) (ap (λ (o : Outcome). o .reply) gets-start-is)
+      (omega (arith, totals (answ1 b) (periodTail (b .responder .period)) [] .1 refl, j .room-for-answ1))
+      (record { kind = lit< tt; number = j .responder .first; stamp = j .r1; «last_peer_stamp» = j .i1; arrival = j .r1; period = j .responder .period; min = lit< tt; max = lit< tt; check = lit< tt })
+      (answ1-allowed (waitsForStart b) (b .r1) (start b) (b .responder .period))
+
+  gets-answ1-is : getsAnsw1 b ≡ sends (answ2 b) emptyTail (sentAnsw2 b)
+  unfolding getsAnsw1 expectationOf followsOf takenOf answ1Taken _outside_to_
+  gets-answ1-is =
+      ap (λ (o : Outcome). receiveOutcome (o .next) (b .i2) (sentBy (getsStart b) (b .out .answ1)) (length (b .out .answ2))) begins-is
+      ∙ judged-in-time (sentStart b) (b .i2) (sentBy (getsStart b) (b .out .answ1)) (length (b .out .answ2)) (answ1 b) (periodTail (b .responder .period))
+      (record { settings = j .initiator .in-range; not-closed = refl; phase = refl; errors = refl }) (j .room-for-answ2) answ1-reads refl
+      0 (no-fault-2 (sentStart b) (b .i2) (answ1 b) (periodTail (b .responder .period)) refl refl)
+      refl (j .in-time-for-answ1)
+
+  -- ---- OffsetAnsw2 arrives
+
+  answ2-reads : parsedOf (sentBy (getsAnsw1 b) (b .out .answ2)) ≡ Parsed.Whole (answ2 b) emptyTail
+  answ2-reads =
+      sent-reads (getsAnsw1 b) (answ2 b) emptyTail (b .out .answ2) (ap (λ (o : Outcome). o .reply) gets-answ1-is)
+      (omega (arith, totals (answ2 b) emptyTail [] .2 refl, j .room-for-answ2))
+      (record { kind = lit< tt; number = next-fits (b .initiator .first); stamp = j .i2; «last_peer_stamp» = j .r1; arrival = j .i2; period = lit< tt; min = lit< tt; max = lit< tt; check = lit< tt })
+      (answ2-allowed (sentStart b) (b .i2) (answ1 b))
+
+  gets-answ2-is : getsAnsw2 b ≡ sends (est b) (estTail b) (sentEst b)
+  unfolding getsAnsw2 expectationOf followsOf takenOf answ2Taken checkFailed _outside_to_
+  gets-answ2-is =
+      ap (λ (o : Outcome). receiveOutcome (o .next) (b .r3) (sentBy (getsAnsw1 b) (b .out .answ2)) (length (b .out .est))) gets-start-is
+      ∙ judged-in-time (sentAnsw1 b) (b .r3) (sentBy (getsAnsw1 b) (b .out .answ2)) (length (b .out .est)) (answ2 b) emptyTail
+      (record { settings = j .responder .in-range; not-closed = refl; phase = refl; errors = refl }) (j .room-for-est) answ2-reads refl
+      0 (check-decides (sentAnsw1 b) (b .r3) (answ2 b) emptyTail (omega arith) (omega arith) (distance-next (b .initiator .first)) (j .responder .in-range) refl false refl)
+      refl (j .in-time-for-answ2)
+
+  up-to-est : UpToEst b
+  up-to-est =
+      record {
+        begins = rw begins-is (record { number = refl; not-released = refl; written = totals (start b) (periodTail (b .initiator .period)) [] .0 refl });
+        waits = rw waits-is (record { number = refl; not-released = refl; written = refl });
+        gets-start = rw gets-start-is (record { number = refl; not-released = refl; written = totals (answ1 b) (periodTail (b .responder .period)) [] .1 refl });
+        gets-answ1 = rw gets-answ1-is (record { number = refl; not-released = refl; written = totals (answ2 b) emptyTail [] .2 refl });
+        gets-answ2 = rw gets-answ2-is (record { number = refl; not-released = refl; written = totals (est b) (estTail b) [] .3 refl });
+      }
+
+  -- ---- OffsetEst arrives
+
+  est-reads : parsedOf (sentBy (getsAnsw2 b) (b .out .est)) ≡ Parsed.Whole (est b) (estTail b)
+  est-reads =
+      sent-reads (getsAnsw2 b) (est b) (estTail b) (b .out .est) (ap (λ (o : Outcome). o .reply) gets-answ2-is)
+      (omega (arith, totals (est b) (estTail b) [] .3 refl, j .room-for-est))
+      (record {
+        kind = lit< tt;
+        number = next-fits (b .responder .first);
+        stamp = j .r3;
+        «last_peer_stamp» = j .i2;
+        arrival = j .r3;
+        period = lit< tt;
+        min = centred-range (pos (b .r1 .0) -ℤ pos (b .i2 .0));
+        max = centred-range (pos (b .r3 .0) -ℤ pos (b .i2 .0));
+        check = lit< tt;
+      })
+      (est-allowed (sentAnsw1 b) (b .r3) (answ2 b) (minOf (sentAnsw1 b) (answ2 b)) (maxOf (b .r3) (answ2 b)))
+
+  -- of the three conditions of the clock check, T_off's is the one that is left
+  t-off-decides : checkFailed (sentAnsw2 b) 4 (estTail b) ≡ not (leb (sizeOfMinPlusPeersMax b) (b .initiator .settings .«t_off»))
+  unfolding checkFailed
+  t-off-decides =
+      rw (accepted-by (b .i1 .0) (b .i2 .0) (b .r1 .0) (b .r3 .0) (b .initiator .settings .«t_off»)
+      (waited-goes-on (b .i2 .0) (b .i1 .0) (omega (arith, j .in-time-for-answ1, in-range (b .initiator .settings) (j .initiator .in-range) .«t_start»))))
+      (or-none (not (leb (sizeOfMinPlusPeersMax b) (b .initiator .settings .«t_off»))))
+
+  est-judged : (k : Bool) → not (leb (sizeOfMinPlusPeersMax b) (b .initiator .settings .«t_off»)) ≡ k
+      → getsEst b ≡ followsOf (sentAnsw2 b) (b .i4) (est b) (estTail b) (when k answer 209 else 0)
+  unfolding getsEst expectationOf _outside_to_
+  est-judged k e =
+      ap (λ (o : Outcome). receiveOutcome (o .next) (b .i4) (sentBy (getsAnsw2 b) (b .out .est)) (length (b .out .end))) gets-answ1-is
+      ∙ judged-in-time (sentAnsw2 b) (b .i4) (sentBy (getsAnsw2 b) (b .out .est)) (length (b .out .end)) (est b) (estTail b)
+      (record { settings = j .initiator .in-range; not-closed = refl; phase = refl; errors = refl }) (j .room-for-end) est-reads refl
+      (when k answer 209 else 0)
+      (check-decides (sentAnsw2 b) (b .i4) (est b) (estTail b) (omega arith) (omega arith) (distance-next (b .responder .first)) (j .initiator .in-range) refl k (t-off-decides ∙ e))
+      refl (j .in-time-for-est)
+
+  -- ---- OffsetEnd arrives
+
+  end-reads : (check : ℕ) → check ≤ 1 → getsEst b .reply ≡ Send (end b) (checkTail check)
+      → parsedOf (sentBy (getsEst b) (b .out .end)) ≡ Parsed.Whole (end b) (checkTail check)
+  end-reads check l e =
+      sent-reads (getsEst b) (end b) (checkTail check) (b .out .end) e
+      (omega (arith, totals (end b) (checkTail check) [] .4 refl, j .room-for-end))
+      (record { kind = lit< tt; number = next-fits (nextOf (b .initiator .first)); stamp = j .i4; «last_peer_stamp» = j .r3; arrival = j .i4; period = lit< tt; min = lit< tt; max = lit< tt; check = omega arith })
+      (end-allowed (sentAnsw2 b) (b .i4) (est b) check l)
+
+  end-judged : (check : ℕ) → check ≤ 1 → getsEst b .reply ≡ Send (end b) (checkTail check)
+      → getsEnd b ≡ followsOf (sentEst b) (b .r5) (end b) (checkTail check) (when eqb check 0 answer 209 else 0)
+  unfolding getsEnd expectationOf checkFailed _outside_to_
+  end-judged check l e =
+      ap (λ (o : Outcome). receiveOutcome (o .next) (b .r5) (sentBy (getsEst b) (b .out .end)) (length (b .out .last))) gets-answ2-is
+      ∙ judged-in-time (sentEst b) (b .r5) (sentBy (getsEst b) (b .out .end)) (length (b .out .last)) (end b) (checkTail check)
+      (record { settings = j .responder .in-range; not-closed = refl; phase = refl; errors = refl }) (j .room-at-last) (end-reads check l e) refl
+      (when eqb check 0 answer 209 else 0)
+      (check-decides (sentEst b) (b .r5) (end b) (checkTail check) (omega arith) (omega arith) (distance-next (nextOf (b .initiator .first))) (j .responder .in-range) refl (eqb check 0) refl)
+      refl (j .in-time-for-end)
+
+  -- ---- offsets within T_off
+
+  module _ (w : sizeOfMinPlusPeersMax b ≤ b .initiator .settings .«t_off») where
+    gets-est-is : getsEst b ≡ sends (end b) (checkTail 1) (initiatorOpen b)
+    unfolding followsOf takenOf estTaken
+    gets-est-is = est-judged false (ap not (le-leb (sizeOfMinPlusPeersMax b) (b .initiator .settings .«t_off») w))
+
+    gets-end-is : getsEnd b ≡ keeps 0 0 (responderOpen b)
+    unfolding followsOf takenOf endTaken
+    gets-end-is = end-judged 1 (lit≤ tt) (ap (λ (o : Outcome). o .reply) gets-est-is)
+
+    both-open : BothOpen b
+    both-open =
+        record {
+          before = up-to-est;
+          gets-est = rw gets-est-is (record { number = refl; not-released = refl; written = totals (end b) (checkTail 1) [] .4 refl });
+          gets-end = rw gets-end-is (record { number = refl; not-released = refl; written = refl });
+          initiator = rw gets-est-is (record { phase = refl; min = refl; max = refl });
+          responder = rw gets-end-is (record { phase = refl; min = refl; max = refl });
+        }
+
+  -- ---- offsets beyond T_off
+
+  module _ (w : b .initiator .settings .«t_off» < sizeOfMinPlusPeersMax b) where
+    est-refused : getsEst b ≡ refuses (sentAnsw2 b) (b .i4) (est b)
+    unfolding followsOf
+    est-refused = est-judged true (ap not (lt-leb (sizeOfMinPlusPeersMax b) (b .initiator .settings .«t_off») w))
+
+    end-refused : getsEnd b ≡ releases 209 0
+    unfolding followsOf refuses
+    end-refused = end-judged 0 (lit≤ tt) (ap (λ (o : Outcome). o .reply) est-refused)
+
+    both-released : BothReleased b
+    unfolding refuses
+    both-released =
+        record {
+          before = up-to-est;
+          gets-est = rw est-refused (record { number = refl; released = refl; written = totals (end b) (checkTail 0) [] .4 refl });
+          gets-end = rw end-refused (record { number = refl; released = refl; written = refl });
+        }
+
+-- joined, with offsets within T_off, two boxes of ours open
+pub two-boxes-open : TwoBoxesOpen
+two-boxes-open b j w = both-open b j w
+
+-- with offsets beyond it they do not
+pub two-boxes-release : TwoBoxesRelease
+two-boxes-release b j w = both-released b j w
+
+pub size-is-of-waits : SizeIsOfWaits
+size-is-of-waits b j =
+    ap natAbs
+    (difference-of-waits (b .i1 .0) (b .i2 .0) (b .r1 .0) (b .r3 .0)
+    (omega (arith, j .in-time-for-answ2, in-range (b .responder .settings) (j .responder .in-range) .«t_start»))
+    (omega (arith, j .in-time-for-answ1, in-range (b .initiator .settings) (j .initiator .in-range) .«t_start»)))
+
+-- the size of a difference is at most the larger number
+less-size : (a b t : ℕ) → a ≤ t → b ≤ t → natAbs (pos a -ℤ pos b) ≤ t
+less-size a b t h k =
+    rw (less-pos a b)
+    (cond-both (ltb a b) (negsuc (b - suc a)) (pos (a - b)) (λ z. natAbs z ≤ t) (λ l. omega (arith, ltb→lt a b l)) (λ _. omega arith))
+
+pub two-boxes-open-in-time : TwoBoxesOpenInTime
+two-boxes-open-in-time b j h k =
+    two-boxes-open b j
+    (rw (size-is-of-waits b j)
+    (less-size (waitOf (b .r3 .0) (b .r1 .0)) (waitOf (b .i2 .0) (b .i1 .0)) (b .initiator .settings .«t_off»)
+    (omega (arith, j .in-time-for-answ2)) (omega (arith, j .in-time-for-answ1))))
+
+-- ---- the worked pair
+
+worked-joined : (t-off : ℕ) → t-off ≤ 60000 → Joined (worked t-off)
+unfolding outOfRange _outside_to_ goesBack waitOf wrapped centred modulo
+worked-joined t-off l =
+    record {
+      initiator = record { slot-closed = refl; in-range = rw (le-ltb 60000 t-off l, le-ltb t-off 0 (omega arith)); first = lit< tt; period = lit< tt };
+      responder = record { slot-closed = refl; in-range = refl; first = lit< tt; period = lit< tt };
+      i1 = lit< tt;
+      r1 = lit< tt;
+      i2 = lit< tt;
+      r3 = lit< tt;
+      i4 = lit< tt;
+      responder-first = refl;
+      in-time-for-answ1 = lit< tt;
+      in-time-for-answ2 = lit< tt;
+      in-time-for-est = lit< tt;
+      in-time-for-end = lit< tt;
+      room-for-start = lit≤ tt;
+      room-for-answ1 = lit≤ tt;
+      room-for-answ2 = lit≤ tt;
+      room-for-est = lit≤ tt;
+      room-for-end = lit≤ tt;
+      room-at-last = lit≤ tt;
+    }
+
+pub worked-pair : WorkedPair
+unfolding wrapped centred modulo
+worked-pair =
+    record {
+      initiator-min = refl;
+      initiator-max = refl;
+      responder-min = refl;
+      responder-max = refl;
+      at-20 = two-boxes-open (worked 20) (worked-joined 20 (lit≤ tt)) (lit≤ tt);
+      at-19 = two-boxes-release (worked 19) (worked-joined 19 (lit≤ tt)) (lit< tt);
+    }

@@ -1,0 +1,1 @@
+// Two boxes of ours, joined: specs/ has what is said of them, proofs/ the proof. No code.

@@ -1,0 +1,412 @@
+# Reads the test sheet's cases (tests/cases, described in tests/cases/README.md): what goes into the programs, in bytes, and what must come out.
+import os
+import re
+
+from answers import CALLS, PHASES
+
+CASES = os.path.join(os.path.dirname(os.path.abspath(__file__)), "cases")
+FILES = ["links.cases", "packets.cases", "messages.cases", "calls.cases", "traces.cases", "sample.trace"]
+KINDS = {name: number for number, name in CALLS.items()}
+MESSAGES = {1: "OffsetStart", 2: "OffsetAnsw1", 3: "OffsetAnsw2", 4: "OffsetEst", 5: "OffsetEnd", 6: "application"}
+# A packet's fields before its user data.
+HEADER = 10
+MARK = "52 32"
+HEADING = "slot answer"
+# A connection record's fields in the order of the files that `single_calls` reads, with their widths; min and max in two's complement.
+FIELDS = [("phase", 1), ("N", 2), ("T_max", 4), ("E", 4), ("T_start", 4), ("T_off", 4), ("limit", 1), ("own number", 2), ("period", 4), ("last number", 2),
+          ("peer stamp", 4), ("arrival", 4), ("wait start", 4), ("min", 4), ("max", 4), ("errors", 1), ("clock", 4)]
+# Begin's bytes in a trace after the role.
+BEGIN = [("N", 2), ("T_max", 4), ("E", 4), ("T_start", 4), ("T_off", 4), ("limit", 1), ("first number", 2), ("period", 4)]
+ROLES = {"initiator": 0, "responder": 1}
+
+
+class Wrong(Exception):
+    """A case that can't be read."""
+
+
+class Item:
+    """A line that begins at the margin, with the hex lines below it."""
+
+    def __init__(self, at, text, comment):
+        self.at, self.text, self.comment = at, text, comment
+        self.hex = []
+
+
+class Case:
+    """One case. `given` goes in, `wanted` must come out, `answer` is what it is about, and the sheet says `says` of it; `triple` is call, phase, answer
+    where it is about one; `readings` are messages with the fields that a comment gives them."""
+
+    def __init__(self, file, name):
+        self.file, self.name = file, name
+        self.items, self.rules = [], []
+        self.kind = self.given = self.wanted = self.answer = self.says = self.triple = None
+        self.readings = []
+
+
+def bytes_of(text):
+    made = b""
+    for token in text.split():
+        found = re.fullmatch(r"([0-9A-F]{2})(?:\*([0-9]+))?", token)
+        if not found:
+            raise Wrong("%s: not a byte" % token)
+        made += bytes([int(found[1], 16)]) * int(found[2] or 1)
+    return made
+
+
+def big_endian(value, width):
+    return (value % 256 ** width).to_bytes(width, "big")
+
+
+# "N 3, T_max 40" as a dictionary; each word must be one of those that are known.
+def fields_of(text, known):
+    given = {}
+    for part in text.split(","):
+        name, _, value = part.strip().rpartition(" ")
+        if name not in known or name in given or not re.fullmatch(r"-?[0-9]+", value):
+            raise Wrong("%s: not one of %s with a number, or said twice" % (part.strip(), ", ".join(known)))
+        given[name] = int(value)
+    return given
+
+
+# The check of a header, bit by bit: least significant bit of each byte first, register all ones at first, highest term in the lowest bit.
+def check_of(header):
+    register = 0xFFFF
+    for byte in header:
+        for bit in range(8):
+            odd = (register ^ byte >> bit) & 1
+            register = register >> 1 ^ (0x8408 if odd else 0)
+    return register
+
+
+# What a comment beside a packet must say of its bytes.
+def packet_reading(packet):
+    fields = packet[:2], packet[2:3], packet[3:4], packet[4:6], packet[6:7], packet[7:8]
+    right = "right" if int.from_bytes(packet[8:10], "big") == check_of(packet[:8]) else "wrong"
+    return "length %d, version %d, application type %d, number %d, flag %d, type %d" % tuple(int.from_bytes(f, "big") for f in fields) + ", check " + right
+
+
+# What a comment beside a message must say, from the line that the programs print for it.
+def message_reading(line):
+    read, _, written = line.partition(" = ")
+    kind, number, stamp, last, arrival, *after = read.split(" ")
+    head = "%s, number %s, stamp %s, last peer stamp %s, own count at arrival %s" % (MESSAGES[int(kind)], number, stamp, last, arrival)
+    tail = {"1": ", period %s", "2": ", period %s", "3": "", "4": ", min %s, max %s", "5": ", check %s", "6": ", data %s"}[kind]
+    return head + (tail % tuple(after) if tail else "")
+
+
+def parts(file):
+    case, made, named = None, [], {}
+    with open(os.path.join(CASES, file)) as lines:
+        for at, line in enumerate(lines, 1):
+            text, _, comment = (part.rstrip() for part in line.rstrip("\n").partition("#"))
+            place = "%s:%d" % (file, at)
+            if not text:
+                continue
+            if text[0] == " ":
+                case.items[-1].hex.append((text.strip(), comment.strip()))
+                continue
+            word, _, rest = text.partition(" ")
+            if word in ("case", "record", "history"):
+                case = Case(place, rest)
+                (made if word == "case" else named.setdefault(word, [])).append(case)
+            elif word == "01:":
+                case.rules.append(rest)
+            else:
+                case.items.append(Item(place, text, comment.strip()))
+    return made, {word: {part.name: part for part in listed} for word, listed in named.items()}
+
+
+# The hex of an item, on its own line and below it, as bytes with their comments.
+def hex_of(item, inline=""):
+    lines = ([(inline, item.comment)] if inline not in ("", "nothing") else []) + item.hex
+    return [(bytes_of(text), comment) for text, comment in lines]
+
+
+def joined(lines):
+    return b"".join(bytes for bytes, _ in lines)
+
+
+# Messages whose comment gives their fields; the programs say whether it is right.
+def note_readings(case, lines):
+    for bytes, comment in lines:
+        reading = comment.split(";")[0].strip()
+        if reading.split(",")[0] in MESSAGES.values():
+            case.readings.append((bytes, reading))
+
+
+# The item of a case that begins with a word, and what stands after the word.
+def item_of(case, word, needed=True):
+    found = [item for item in case.items if item.text.startswith(word)]
+    if len(found) != 1 and (needed or found):
+        raise Wrong("%d lines `%s`" % (len(found), word))
+    return (found[0], found[0].text[len(word):].strip()) if found else (None, "")
+
+
+def hexed(bytes):
+    return bytes.hex().upper() or "-"
+
+
+# Steps over two links.
+
+LINK_WORDS = {"both links up": (1, 1), "normal link down": (0, 1), "redundant link down": (1, 0), "both links down": (0, 0)}
+
+
+def state_of(text):
+    words = [word.strip() for word in text.split(",")]
+    (role, setting), links = words[0].split(" "), LINK_WORDS[words[1]]
+    if role not in ROLES or setting not in ("strict", "loose"):
+        raise Wrong("%s: not a role and a setting" % words[0])
+    first = words[2] == "first packet"
+    return {"role": role, "strict": setting == "strict", "links": links, "first": first, "last": 0 if first else int(words[2].removeprefix("last "))}
+
+
+def link_of(case, word):
+    item, text = item_of(case, word)
+    place, text = (0, text) if text.startswith(":") else (int(text.split(":")[0].removeprefix("from ")), text[text.index(":"):])
+    lines = hex_of(item, text[1:].strip())
+    for bytes, comment in lines:
+        reading = comment.split(";")[0].strip()
+        if len(bytes) >= HEADER and reading != packet_reading(bytes):
+            raise Wrong("the comment says `%s`, the bytes say `%s`" % (reading, packet_reading(bytes)))
+    return place, joined(lines)
+
+
+# The two lines of a step, from `=> ANSWER on LINK, USED used[; type .. from START]` and `after: ..`.
+def step_lines(state, wanted, after):
+    found = re.fullmatch(r"([0-9]+) on (normal|redundant), ([0-9]+) used(?:; (.*))?", wanted)
+    if not found:
+        raise Wrong("%s: not an answer of a step" % wanted)
+    answer, link, used, handed_up = found.groups()
+    numbers = re.fullmatch(r"type ([0-9]+), number ([0-9]+), version ([0-9]+), application type ([0-9]+), data ([0-9]+) from ([0-9]+)", handed_up or "")
+    if (answer == "0") != bool(numbers):
+        raise Wrong("only an answer 0 hands up")
+    kind, number, version, application, data, start = numbers.groups() if numbers else 6 * "0"
+    up, first, last = state["links"], state["first"], state["last"]
+    for word in [] if after == "unchanged" else after.split(", "):
+        if word in ("normal link down", "redundant link down", "both links down"):
+            up = LINK_WORDS[word]
+        else:
+            first, last = False, int(word.removeprefix("last "))
+    first_line = "%s %s %s %s %s %s" % (link, answer, used, kind, number, data)
+    return answer, [first_line, "state %d %d %d %d %s %s %s" % (*up, first, last, version, application, start)]
+
+
+def read_step(case):
+    state = state_of(item_of(case, "before:")[1])
+    (normal_place, normal), (redundant_place, redundant) = link_of(case, "normal"), link_of(case, "redundant")
+    flags = state["links"][0] + 2 * state["links"][1] + 4 * ROLES[state["role"]] + 8 * state["strict"] + 16 * state["first"]
+    case.kind = "steps"
+    case.given = bytes([flags]) + big_endian(state["last"], 2) + big_endian(normal_place, 4) + big_endian(redundant_place, 4)
+    case.given += big_endian(len(normal), 2) + big_endian(len(redundant), 2) + normal + redundant
+    case.answer, case.wanted = step_lines(state, item_of(case, "=>")[1], item_of(case, "after:")[1])
+
+
+# A run of `cut`: its words, both files, and every line after the heading.
+def read_cut(case):
+    case.kind = "cut"
+    case.given = item_of(case, "cut:")[1].split(" "), link_of(case, "normal")[1], link_of(case, "redundant")[1]
+    lines = [item.text[2:].strip() for item in case.items if item.text[:2] in ("->", "=>")]
+    case.answer = item_of(case, "=>")[1].split(" ")[1]
+    case.wanted = ["link answer used type number data"] + lines
+
+
+# Packets that are written.
+def read_packet(case):
+    text = item_of(case, "write:")[1]
+    link, _, rest = text.partition(", ")
+    fields = fields_of(rest, ["version", "application type", "number", "type", "room"])
+    item, inline = item_of(case, "data:")
+    data = joined(hex_of(item, inline))
+    case.kind = "packets"
+    case.given = bytes([{"normal": 1, "redundant": 0}[link], fields["version"], fields["application type"]]) + big_endian(fields["number"], 2)
+    case.given += bytes([fields["type"]]) + big_endian(fields["room"], 2) + big_endian(len(data), 2) + data
+    case.answer = item_of(case, "=>")[1]
+    written, inline = item_of(case, "written:", case.answer == "0")
+    lines = hex_of(written, inline) if written else []
+    for bytes_, comment in lines[:1]:
+        if comment.split(";")[0].strip() != packet_reading(bytes_):
+            raise Wrong("the comment says `%s`, the bytes say `%s`" % (comment, packet_reading(bytes_)))
+    case.written = joined(lines)
+    case.wanted = ["%s %s" % (case.answer, hexed(case.written))]
+
+
+# Messages.
+def read_message(case):
+    item, inline = item_of(case, "message:")
+    lines = hex_of(item, inline)
+    message = joined(lines)
+    case.kind = "messages"
+    case.given = big_endian(len(message), 2) + message
+    case.answer, _, reading = item_of(case, "=>")[1].partition(": ")
+    if case.answer == "whole":
+        case.readings.append((message, reading))
+    elif case.answer != "malformed":
+        raise Wrong("%s: not whole or malformed" % case.answer)
+    case.wanted = ["malformed"] if case.answer == "malformed" else [None]
+
+
+# Single calls.
+
+NAMES = [name for name, _ in FIELDS]
+
+
+def record_of(text, records):
+    name, _, changes = text.partition(" with ")
+    if name not in records:
+        raise Wrong("%s: no such record" % name)
+    return {**records[name], **(fields_of(changes, NAMES) if changes else {})}
+
+
+def records_of(named):
+    made = {}
+    for name, part in named.items():
+        made[name] = fields_of(", ".join(item.text for item in part.items), NAMES)
+        if list(made[name]) != NAMES:
+            raise Wrong("record %s does not give each field once, in order" % name)
+    return made
+
+
+# The record after a call.
+def record_after(text, before):
+    if text == "unchanged":
+        return before
+    if text == "all zero":
+        return {name: 0 for name in NAMES}
+    return {**before, **fields_of(text, NAMES)}
+
+
+# Role and settings as begin's bytes.
+def begin_bytes(text):
+    role, _, rest = text.partition(", ")
+    given = fields_of(rest, [name for name, _ in BEGIN])
+    return bytes([ROLES[role]]) + b"".join(big_endian(given[name], width) for name, width in BEGIN)
+
+
+# The bytes that a call is given: begin's settings in words, or hex.
+def given_bytes(case, item, settings):
+    lines = hex_of(item)
+    note_readings(case, lines)
+    return begin_bytes(settings) if settings else joined(lines)
+
+
+def read_call(case, records):
+    before = record_of(item_of(case, "record:")[1], records)
+    item, text = item_of(case, "call:")
+    head, _, settings = text.partition(": ")
+    found = re.fullmatch(r"(\w+) now ([0-9]+) room ([0-9]+)", head)
+    kind, now, room = found[1], int(found[2]), int(found[3])
+    bytes_ = given_bytes(case, item, settings)
+    case.kind = "calls"
+    case.given = b"".join(big_endian(before[name], width) for name, width in FIELDS) + bytes([KINDS[kind]])
+    case.given += big_endian(now, 4) + big_endian(room, 2) + big_endian(len(bytes_), 2) + bytes_
+    case.answer, _, what = item_of(case, "=>")[1].partition(", ")
+    if what == "nothing changes":
+        if len(case.items) != 3:
+            raise Wrong("nothing changes, and yet more is said")
+        released, written, delivered, after = 0, b"", b"", before
+    else:
+        released = {"kept": 0, "released": 1}[what]
+        writes, inline = item_of(case, "writes:")
+        lines = hex_of(writes, inline)
+        note_readings(case, lines)
+        written = joined(lines)
+        delivers, inline = item_of(case, "delivers:")
+        delivered = joined(hex_of(delivers, inline))
+        after = record_after(item_of(case, "after:")[1], before)
+    line = "%s %d %s %d %s " % (case.answer, released, hexed(written), 15 if delivered else 0, hexed(delivered))
+    case.wanted = [line + " ".join(str(after[name]) for name in NAMES)]
+    case.triple = kind, min(before["phase"], len(PHASES) - 1), case.answer
+    case.says = case.answer + ("" if what == "nothing changes" else ", " + what)
+
+
+# Traces.
+
+# One record of a trace: its bytes, and the line that is printed.
+def trace_record(case, item):
+    found = re.fullmatch(r"(\w+)(?: slot ([0-9]+))?(?: now ([0-9]+))?(?:: (.*?))? ([-=]>) (\w+)", item.text)
+    if not found:
+        raise Wrong("%s: not a record of a trace" % item.text)
+    kind, slot, now, settings, arrow, answer = found.groups()
+    bytes_ = given_bytes(case, item, settings)
+    if kind != "bytes":
+        bytes_ = bytes_of(MARK) + bytes([KINDS[kind], int(slot)]) + big_endian(int(now), 4) + big_endian(len(bytes_), 2) + bytes_
+    return bytes_, answer if answer == "bad" else "%s %s" % (slot, answer), kind, arrow == "=>", answer
+
+
+def items_after(case, histories, phases):
+    item, name = item_of(case, "after:", False)
+    own = [other for other in case.items if other is not item and not other.text.startswith(("phase:", "output:"))]
+    if not item:
+        return own, None
+    if name not in histories:
+        raise Wrong("%s: no such history" % name)
+    before, _ = items_after(histories[name], histories, phases)
+    return before + own, phases.get(name)
+
+
+# A history's phase is said by its line `phase:`.
+def phases_of(histories):
+    return {name: PHASES.index(item_of(part, "phase:")[1]) for name, part in histories.items()}
+
+
+def read_trace(case, histories):
+    phases = phases_of(histories)
+    items, phase = items_after(case, histories, phases)
+    records = [trace_record(case, item) for item in items]
+    case.kind = "replay"
+    case.given = b"".join(bytes_ for bytes_, *_ in records)
+    lines = [line for _, line, *_ in records]
+    case.wanted = [HEADING] + lines + ["end %d" % sum(line != "bad" for line in lines)]
+    about = [(kind, answer) for _, _, kind, is_about, answer in records if is_about]
+    output, text = item_of(case, "output:", False)
+    if len(about) > 1 or (not about) == (not output) or (output and text != case.wanted[-1]):
+        raise Wrong("a trace has one line `=>` that it is about, or a line `output:` with the last line printed")
+    case.answer = about[0][1] if about else text
+    own = [item for item in case.items if not item.text.startswith(("after:", "output:"))]
+    if about and phase is None:
+        phase = 0
+    if about and own and "=>" in own[0].text:
+        case.triple = about[0][0], phase, case.answer
+
+
+# The words that a line of a case may begin with.
+WORDS = {
+    "links.cases": ("before:", "normal", "redundant", "cut:", "after:", "->", "=>"),
+    "packets.cases": ("write:", "data:", "written:", "=>"),
+    "messages.cases": ("message:", "=>"),
+    "calls.cases": ("record:", "call:", "writes:", "delivers:", "after:", "=>"),
+    "traces.cases": ("after:", "phase:", "output:", "bytes ") + tuple(name + " " for name in KINDS),
+}
+WORDS["sample.trace"] = WORDS["traces.cases"]
+
+
+def read(case, file, named):
+    other = [item.text for item in case.items if not item.text.startswith(WORDS[file])]
+    if other:
+        raise Wrong("%s: not a line of such a case" % other[0])
+    if file == "links.cases":
+        return read_cut(case) if any(item.text.startswith("cut:") for item in case.items) else read_step(case)
+    if file == "packets.cases":
+        return read_packet(case)
+    if file == "messages.cases":
+        return read_message(case)
+    if file == "calls.cases":
+        return read_call(case, records_of(named.get("record", {})))
+    return read_trace(case, named.get("history", {}))
+
+
+# Every case of every file.
+def cases():
+    made = []
+    for file in FILES:
+        listed, named = parts(file)
+        for case in listed:
+            try:
+                read(case, file, named)
+            except (Wrong, KeyError, ValueError, TypeError, IndexError) as fault:
+                raise Wrong("%s: case %s: %s" % (case.file, case.name, fault))
+            case.says = case.says or case.answer
+            if not case.rules:
+                raise Wrong("%s: case %s names no line of 01" % (case.file, case.name))
+            made.append(case)
+    return made
