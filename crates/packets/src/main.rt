@@ -1,0 +1,116 @@
+// packets FILE: writes the packets of a file and prints a line for each: the answer, and the bytes written. It is there to compare with the
+// independent program. A packet in the file: link 1 (1 normal, 0 redundant), version 1, application type 1, number 2, packet type 1, room 2 (the
+// out buffer's length), length 2, user data.
+ghost use mathlib.Core.Path.{_≡_};
+ghost use Prim.Native.Nat.{_+_, _≤_};
+ghost use lib.ListN.{length};
+ghost use Rattle.window.specs.Window.{Within};
+use inputs::Done;
+use inputs::Turned;
+use packet::Written;
+use window::Window;
+
+// The fields before the user data.
+const FIELDS: usize = 10;
+
+// The most room of an out buffer.
+const MOST: usize = 2048;
+
+// The packet at the front of s, whose user data ends there, written to so much of the lent buffer.
+fn write_packet(s: &[u8], end: usize, lent: &mut [u8], room: usize) -> Written
+    requires { ⌜ (10 ≤ end) × (end ≤ length (now s)) × (room ≤ length (now lent)) ⌝ }
+{
+    let normal = field::read8(s, 0) == 1;
+    let version = field::read8(s, 1);
+    let application = field::read8(s, 2);
+    let number = field::read16(s, 3);
+    let kind = field::read8(s, 5);
+    packet::write(
+        &mut lent[0..room],
+        normal,
+        version,
+        application,
+        number,
+        kind,
+        &s[FIELDS..end],
+    )
+}
+
+// That packet, and its line.
+fn put_packet(out: &mut [u8], s: &[u8], end: usize, lent: &mut [u8], room: usize) -> usize
+    requires { ⌜ (10 ≤ end) × (end ≤ length (now s)) ⌝ }
+    requires { ⌜ (room ≤ length (now lent)) × (length (now lent) ≤ 2048) × (8192 ≤ length (now out)) ⌝ }
+    ensures { λ r. ⌜ r ≤ 8192 ⌝ }
+{
+    let made = write_packet(s, end, lent, room);
+    let after_answer = text::put_decimal(out, 0, made.answer as u64);
+    let after_written = line::put_written(out, after_answer, lent, made.written);
+    text::put(out, after_written, b"\n")
+}
+
+// The packet at the front of s, if it is there whole.
+fn packet_at(s: &[u8], out: &mut [u8]) -> Done
+    requires { ⌜ 8192 ≤ length (now out) ⌝ }
+    ensures { λ r. ⌜ (r .next ≤ 8192) × (r .used ≤ length (now (s .entry))) ⌝ }
+{
+    if s.len() < FIELDS {
+        return Done { next: 0, used: 0 };
+    }
+    let room = field::read16(s, 6) as usize;
+    let end = FIELDS + field::read16(s, 8) as usize;
+    if s.len() < end {
+        return Done { next: 0, used: 0 };
+    }
+    if MOST < room {
+        return Done { next: 0, used: 0 };
+    }
+    let mut lent = [line::BEFORE; MOST];
+    Done {
+        next: put_packet(out, s, end, &mut lent, room),
+        used: end,
+    }
+}
+
+// The next packet of the file and its line.
+fn turn(fd: i32, buffer: &mut [u8], out: &mut [u8], window: Window) -> Turned
+    requires { ⌜ Within window (length (now buffer)) × (8192 ≤ length (now out)) ⌝ }
+    ensures { λ r. ⌜ Within (r .window) (length (now (buffer .entry))) ⌝ }
+{
+    let topped = inputs::topped_up(fd, buffer, window);
+    let lent = topped.window;
+    let from = lent.from;
+    let to = lent.to;
+    let done = packet_at(&buffer[from..to], out);
+    inputs::printed(out, topped, done)
+}
+
+// The packets of a file, one after the other. A proved loop has to end, so it counts its turns down, from a number that no run uses up.
+fn all(fd: i32, buffer: &mut [u8], out: &mut [u8])
+    requires { ⌜ 8192 ≤ length (now out) ⌝ }
+{
+    let mut window = Window::empty();
+    let mut turns = u64::MAX;
+    while turns > 0 {
+        let turned = turn(fd, buffer, out, window);
+        if !turned.goes_on {
+            return;
+        }
+        window = turned.window;
+        turns -= 1;
+    }
+}
+
+fn run(fd: i32) {
+    let mut buffer = io::large_buffer();
+    let mut out = io::large_buffer();
+    all(fd, &mut buffer, &mut out);
+}
+
+fn main() {
+    let fd = inputs::opened();
+    if fd < 0 {
+        return;
+    }
+    run(fd);
+    libc::close(fd);
+}
