@@ -1,0 +1,4 @@
+pub mod Frame
+pub mod Walk
+pub mod Slot
+pub mod Promises
