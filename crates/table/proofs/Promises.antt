@@ -46,6 +46,8 @@ use Rattle.table.specs.Promises.{
   tableThen,
   outThen,
   ChangesNoOther,
+  OnOthers,
+  LeftAsItWas,
   Agree,
   SameThere,
   Untouched,
@@ -209,10 +211,20 @@ reads-no-other slot call one two agree =
         ≡ (when badSlot (length two) slot answer recordAt two slot else outcomeOf call (recordAt two slot) .next)
     same = rw (agree .same-slot, agree .same-record)
 
+-- calls on other slots leave the record
+pub others-leave-it : (slot : ℕ) (table : List Connection) {after : List Connection} → OnOthers slot table after → LeftAsItWas slot table after
+others-leave-it slot table OnOthers.none = record { same-size = refl; same-record = refl }
+others-leave-it slot table (OnOthers.after {before} x other call n) =
+    let left : LeftAsItWas slot table before = others-leave-it slot table x in
+    let kept : ChangesNoOther before other (tableThen before other call) = changes-no-other before other call in
+    record { same-size = kept .same-size ∙ left .same-size; same-record = kept .same-others slot released (λ e. n (sym e)) ∙ left .same-record }
+
 -- any table, slot and call
 pub promises : (table : List Connection) (slot : ℕ) (call : Call) → Promises table slot call
 promises table slot call =
     record {
+      next-record = λ e. next-there table slot call ∙ rw e refl;
+      same-number = λ e. ap (λ (a : Answer). a .number) (taken-answer table slot call e);
       changes-no-other = changes-no-other table slot call;
       reads-no-other = λ other. reads-no-other slot call table other;
       number-listed = number-listed table slot call;

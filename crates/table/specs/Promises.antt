@@ -83,6 +83,16 @@ pub record SameThere (slot : ℕ) (call : Call) (one two : List Connection) : Ty
   pub same-next : recordAt (tableThen one slot call) slot ≡ recordAt (tableThen two slot call) slot
   pub same-out : outThen one slot call ≡ outThen two slot call
 
+-- any calls on other slots, in any order
+pub data OnOthers (slot : ℕ) (table : List Connection) : List Connection → Type 0 where
+  none : OnOthers slot table table
+  after : {before : List Connection} → OnOthers slot table before → (other : ℕ) (call : Call) → other ≢ slot → OnOthers slot table (tableThen before other call)
+
+-- so a slot's record is "as the call before left it", the call on that slot
+pub record LeftAsItWas (slot : ℕ) (table after : List Connection) : Type 0 where
+  pub same-size : length after ≡ length table
+  pub same-record : recordAt after slot ≡ recordAt table slot
+
 -- ---- "no record, no lent byte and no remembered clock changes"
 pub record Untouched (table : List Connection) (slot : ℕ) (call : Call) : Type 0 where
   pub same-table : tableThen table slot call ≡ table
@@ -97,6 +107,9 @@ AllValid table = (slot : ℕ) → slot < length table → Valid (recordAt table 
 
 -- ---- all of it, of any table, slot and call
 pub record Promises (table : List Connection) (slot : ℕ) (call : Call) : Type 0 where
+  -- the slot's record moves as the call by value says, and the answer is its answer
+  pub next-record : badSlot (length table) slot ≡ false → recordAt (tableThen table slot call) slot ≡ outcomeOf call (recordAt table slot) .next
+  pub same-number : badSlot (length table) slot ≡ false → answerTo table slot call .number ≡ outcomeOf call (recordAt table slot) .answer
   pub changes-no-other : ChangesNoOther table slot (tableThen table slot call)
   pub reads-no-other : (other : List Connection) → Agree slot table other → SameThere slot call table other
   pub number-listed : answerTo table slot call .number among numbersOf call ≡ true
