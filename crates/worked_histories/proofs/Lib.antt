@@ -1,0 +1,6 @@
+pub mod Worlds
+pub mod Histories
+pub mod SetUp
+pub mod Initiator
+pub mod Responder
+pub mod PremisesMissed

@@ -1,0 +1,102 @@
+-- The premises of demand 3 are met at an initiator, with every answer that goes by the age, and its bounds are reached.
+use Prim.Native.Nat.{ℕ}
+use mathlib.Core.List.{List}
+use lib.IntN.{pos, negℤ}
+use Rattle.connection.specs.declared.Settings.{Settings}
+use Rattle.true_age.specs.Clocks.{World}
+use Rattle.worked_histories.specs.Worlds.{Runs, StaysInBand, responders, gaining, standing}
+use Rattle.worked_histories.specs.Histories.{Place, receive, send, tick, Common, Judges, truly_computed_answers_between_and_}
+use Rattle.worked_histories.specs.SetUp.{toInitiator, atInitiator, initiatorOpen}
+
+-- ---- the peer's clock gains 60 ticks from 2000 to 2060: the difference falls from 850 to 790
+
+abbrev pub peers : ℕ → ℕ
+peers = gaining 2000 2060 responders
+
+-- T_max 40 and E 0, as 01 works them
+abbrev pub settings : Settings
+settings = record { n = 3; «t_max» = 40; e = 0; «t_start» = 100; «t_off» = 10; limit = 5 }
+
+abbrev pub common : Common
+common = record { e = 0; t-max = 40; j = 60; d = 20; oldest = pos 80 }
+
+-- stamp 300, sent at 1150
+abbrev pub freshMessage : List ℕ
+freshMessage = toInitiator 22 0x01 0x2C
+
+-- stamp 350, sent at 1200; number 24 after 22
+abbrev pub gapMessage : List ℕ
+gapMessage = toInitiator 24 0x01 0x5E
+
+-- stamp 400, sent at 1250
+abbrev pub lateMessage : List ℕ
+lateMessage = toInitiator 25 0x01 0x90
+
+-- stamp 1310, sent at 2100
+abbrev pub futureMessage : List ℕ
+futureMessage = toInitiator 26 0x05 0x1E
+
+-- stamp 1410, sent at 2200
+abbrev pub oldestMessage : List ℕ
+oldestMessage = toInitiator 27 0x05 0x82
+
+module _ (runs : Runs peers) where
+  abbrev pub world : World
+  world = atInitiator peers runs
+
+  abbrev pub afterSend : Place world
+  afterSend = send world (initiatorOpen peers runs settings) 1130 4
+
+  abbrev pub afterFresh : Place world
+  afterFresh = receive world afterSend 1170 freshMessage
+
+  abbrev pub afterGap : Place world
+  afterGap = receive world afterFresh 1215 gapMessage
+
+  abbrev pub afterLate : Place world
+  afterLate = receive world afterGap 1271 lateMessage
+
+  abbrev pub afterTick : Place world
+  afterTick = tick world afterLate 1500
+
+  abbrev pub afterFuture : Place world
+  afterFuture = receive world afterTick 2139 futureMessage
+
+pub record InitiatorMeets : Type 0 where
+  pub runs : Runs peers
+  pub band : StaysInBand (world runs) 1000 60
+  -- 01: stamp 300, now 1170: age 40, which T_max 40 delivers
+  pub fresh : Judges (world runs) 1000 1000 0 settings (afterSend runs) 1150 1170 freshMessage common
+      (truly 20 computed pos 40 answers 0 between negℤ (pos 20) and pos 100)
+  pub gap : Judges (world runs) 1000 1000 0 settings (afterFresh runs) 1200 1215 gapMessage common
+      (truly 15 computed pos 35 answers 204 between negℤ (pos 25) and pos 95)
+  pub late : Judges (world runs) 1000 1000 0 settings (afterGap runs) 1250 1271 lateMessage common
+      (truly 21 computed pos 41 answers 205 between negℤ (pos 19) and pos 101)
+  -- true age + E + d is J - 1, and the age is its least
+  pub future : Judges (world runs) 1000 1000 0 settings (afterTick runs) 2100 2139 futureMessage common
+      (truly 39 computed negℤ (pos 1) answers 206 between negℤ (pos 1) and pos 119)
+  -- the oldest that can be handed up: T_max - E + J - d
+  pub oldest : Judges (world runs) 1000 1000 0 settings (afterFuture runs) 2200 2280 oldestMessage common
+      (truly 80 computed pos 40 answers 204 between pos 40 and pos 160)
+
+-- ---- the peer's clock stands still from 1120 to 1180: the difference rises from 850 to 910
+
+abbrev pub slowPeers : ℕ → ℕ
+slowPeers = standing 1120 1180 responders
+
+abbrev pub settings200 : Settings
+settings200 = record { n = 3; «t_max» = 200; e = 10; «t_start» = 100; «t_off» = 10; limit = 5 }
+
+abbrev pub band60 : Common
+band60 = record { e = 10; t-max = 200; j = 60; d = 20; oldest = pos 230 }
+
+-- stamp 290, sent at 1200
+abbrev pub slowMessage : List ℕ
+slowMessage = toInitiator 22 0x01 0x22
+
+pub record LateReached : Type 0 where
+  pub runs : Runs slowPeers
+  pub band : StaysInBand (atInitiator slowPeers runs) 1000 60
+  -- true age + E + J + d is T_max + 1, and the age is its most
+  pub late : Judges (atInitiator slowPeers runs) 1000 1000 0 settings200 (initiatorOpen slowPeers runs settings200) 1200 1311 slowMessage band60
+      (truly 111 computed pos 201 answers 205 between pos 81 and pos 201)

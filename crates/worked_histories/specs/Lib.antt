@@ -1,0 +1,7 @@
+-- Demand 3 worked through on numbers and bytes: its premises met at either role, its bounds reached, and its premises missed.
+pub mod Worlds
+pub mod Histories
+pub mod SetUp
+pub mod Initiator
+pub mod Responder
+pub mod PremisesMissed

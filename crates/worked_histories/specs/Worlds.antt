@@ -1,0 +1,58 @@
+-- Worlds for the worked histories: a moment is a number of ticks of a third clock, and each of the two clocks is a function of it.
+use Prim.Native.Nat.{ℕ, _+_, _-_, _≤_}
+use native.Mathlib.Nat.{le-refl, le-trans}
+use lib.Dec.{eqb}
+use Rattle.rules.specs.Rows.{when_answer_else_}
+use Rattle.true_age.specs.Clocks.{World, InBand}
+
+-- "neither count runs back"
+abbrev pub Runs : (ℕ → ℕ) → Type 0
+Runs clock = (t u : ℕ) → t ≤ u → clock t ≤ clock u
+
+-- the moments at which the first, the second and the third message that we write arrive at the peer
+abbrev pub arrivals : ℕ → ℕ → ℕ → ℕ → ℕ
+arrivals first second third n =
+    when eqb n 0 answer first else
+    when eqb n 1 answer second else
+    third
+
+abbrev pub worldOf : (ours peers arrived : ℕ → ℕ) → Runs ours → Runs peers → World
+worldOf ours peers arrived ours-runs peers-runs =
+    record {
+      Moment = ℕ;
+      early = _≤_;
+      early-refl = λ t. le-refl t;
+      early-trans = λ t u v h k. le-trans h k;
+      ours = ours;
+      peers = peers;
+      ours-runs = ours-runs;
+      peers-runs = peers-runs;
+      arrived = arrived;
+    }
+
+-- a band that is never left, whenever a message is judged
+abbrev pub StaysInBand : (W : World) → W .Moment → ℕ → Type 0
+StaysInBand W began j = (judged : W .Moment) → InBand W began judged j
+
+-- 01: "true offset 850". The initiator's clock reads the moment itself, the responder's 850 less, unless a world says otherwise
+abbrev pub initiators : ℕ → ℕ
+initiators t = t
+
+abbrev pub responders : ℕ → ℕ
+responders t = t - 850
+
+-- how many ticks of from .. to are past at t
+abbrev pub past : ℕ → ℕ → ℕ → ℕ
+past from to t = t - from - (t - to)
+
+-- a clock that gains from .. to: it runs two ticks in each
+abbrev pub gaining : ℕ → ℕ → (ℕ → ℕ) → ℕ → ℕ
+gaining from to clock t = clock t + past from to t
+
+-- a clock that stands still from .. to
+abbrev pub standing : ℕ → ℕ → (ℕ → ℕ) → ℕ → ℕ
+standing from to clock t = clock t - past from to t
+
+-- the responder's clock, but before 1000 it stands still at 150
+abbrev pub standingBefore : ℕ → ℕ
+standingBefore t = 150 + (t - 1000)
