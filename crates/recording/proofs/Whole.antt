@@ -1,18 +1,17 @@
 -- A step over two windows is the step over the whole files, and a refill keeps it so.
 -- Assumes nothing.
-use Prim.Native.Nat.{ℕ, zero, suc, _+_, _-_, _≤_}
+use Prim.Native.Nat.{ℕ, _+_, _-_, _≤_}
 use mathlib.Core.Path.{_≡_, refl, sym, ap, subst, _∙_}
-use mathlib.Core.Bool.{Bool, true, false, not, cond, _&&_, false≢true}
-use mathlib.Core.List.{List, [], _∷_, _++_, append-assoc}
+use mathlib.Core.Bool.{Bool, true, false, cond}
+use mathlib.Core.List.{List, _++_, append-assoc}
 use mathlib.Core.Logic.{_⊎_, inl, inr, ⊎-elim}
 use native.Mathlib.Omega.{arith}
-use borrow.Author.Tests.{ltb-false, le-ltb}
-use lib.Dec.{ltb}
-use lib.ListN.{length, take, drop, length-drop, take-append-drop}
-use lib.Seq.{length-take-le, take-nil, take-take, drop-drop, drop-append-le}
+use lib.ListN.{length, take, drop, length-drop}
+use lib.Seq.{length-take-le, drop-drop, drop-append-le}
 use Rattle.window.specs.Window.{Within, leftOf, unread, lowOf, usedOf}
 use Rattle.window.specs.declared.Window.{Window}
 use Rattle.window.specs.declared.Refilled.{Refilled}
+use Rattle.window.proofs.Unread.{part, length-unread, unread-used, enough-or-ended, unread-refilled, refilled-not-low}
 use Rattle.links.specs.Promises.{mostBytes, seenFrom}
 use Rattle.links.specs.declared.Taken.{Taken}
 use Rattle.links.proofs.Alike.{sees-no-more-than-a-packet, buffer-seen-as-file}
@@ -22,25 +21,6 @@ use Rattle.recording.specs.Whole.{Follows, StepsAsWhole, RefillFollows, 
 use Rattle.recording.specs.declared.Progress.{Progress}
 use Rattle.recording.proofs.Windows.{uses}
 
--- a part of a list, cut behind first or before first
-part : (from to : ℕ) (l : List ℕ) → drop from (take to l) ≡ take (to - from) (drop from l)
-part zero to l = let same : to ≡ to - 0 = omega arith in ap (λ (n : ℕ). take n l) same
-part (suc from) zero l = let none : 0 ≡ 0 - suc from = omega arith in ap (λ (n : ℕ). take n (drop (suc from) l)) none
-part (suc from) (suc to) [] = sym (take-nil (suc to - suc from))
-part (suc from) (suc to) (x ∷ l) =
-    let fewer : to - from ≡ suc to - suc from = omega arith in
-    part from to l ∙ ap (λ (n : ℕ). take n (drop from l)) fewer
-
--- a window that is not low has the most bytes of a packet, or its file has ended
-not-low : (w : Window) → lowOf mostBytes w ≡ false → (mostBytes ≤ leftOf w) ⊎ (w .ended ≡ true)
-unfolding lowOf
-not-low w = by (ltb (leftOf w) mostBytes) refl (w .ended) refl
-  where
-    by : (few : Bool) → ltb (leftOf w) mostBytes ≡ few → (ended : Bool) → w .ended ≡ ended → (few && not ended) ≡ false → (mostBytes ≤ leftOf w) ⊎ (w .ended ≡ true)
-    by true e true d f = inr d
-    by true e false d f = absurd (false≢true (sym f))
-    by false e ended d f = inl (ltb-false _ _ e)
-
 -- what is lent of a window that follows a file is seen as the file is
 seen-as-file : (file : List ℕ) (place : ℕ) (buffer : List ℕ) (w : Window) → Within w (length buffer) → Follows file place buffer w → lowOf mostBytes w ≡ false
     → seenFrom (take (w .to) buffer) (w .from) ≡ seenFrom file place
@@ -49,21 +29,18 @@ seen-as-file file place buffer w h f low =
     let size : length (drop (w .from) (take (w .to) buffer)) ≡ leftOf w =
     ap length lent ∙ length-take-le (leftOf w) (drop (w .from) buffer) (omega (arith, length-drop (w .from) buffer)) in
     buffer-seen-as-file (take (w .to) buffer) (w .from) file place (f .rest) (f .next ∙ ap (λ (l : List ℕ). l ++ f .rest) (sym lent))
-    (⊎-elim (λ many. inl (subst (λ (n : ℕ). mostBytes ≤ n) (sym size) many)) (λ ended. inr (f .all ended)) (not-low w low))
+    (⊎-elim (λ many. inl (subst (λ (n : ℕ). mostBytes ≤ n) (sym size) many)) (λ ended. inr (f .all ended)) (enough-or-ended mostBytes w low))
 
 -- a window that follows a file follows it after bytes of it are used
 follows-used : (file : List ℕ) (place : ℕ) (buffer : List ℕ) (w : Window) (used : ℕ) → Within w (length buffer) → Follows file place buffer w → w .from + used ≤ w .to
     → Follows file (place + used) buffer (usedOf used w)
 follows-used file place buffer w used h f u =
-    let bytes = drop (w .from) buffer in
-    let left : length (unread buffer w) ≡ leftOf w = length-take-le (leftOf w) bytes (omega (arith, length-drop (w .from) buffer)) in
-    let fewer : leftOf w - used ≡ leftOf (usedOf used w) = omega arith in
+    let left = length-unread buffer w h in
     record {
       rest = f .rest;
       next =
           sym (drop-drop used place file) ∙ ap (drop used) (f .next) ∙ drop-append-le used (unread buffer w) (f .rest) (omega arith)
-          ∙ ap (λ (l : List ℕ). l ++ f .rest)
-          (part used (leftOf w) bytes ∙ ap (λ (n : ℕ). take n (drop used bytes)) fewer ∙ ap (take (leftOf (usedOf used w))) (drop-drop used (w .from) buffer));
+          ∙ ap (λ (l : List ℕ). l ++ f .rest) (unread-used buffer w used);
       all = f .all;
     }
 
@@ -97,33 +74,17 @@ module _ (normalFile : List ℕ) (normalPlace : ℕ) (redundantFile : List ℕ) 
             alike (other-follows (t .normal) redundantFile redundantPlace redundant (p .redundant) (t .used) (lies .1) r (u .1)),
       )
 
--- the front of a window that begins at the front is the front of its buffer
-fronts : (from to left : ℕ) (l : List ℕ) → from ≡ 0 → left ≤ to → take left (take (to - from) (drop from l)) ≡ take left l
-fronts from to left l e h = take-take left (to - from) (drop from l) (omega arith) ∙ ap (λ (n : ℕ). take left (drop n l)) e
-
-and-false : (b : Bool) → (b && false) ≡ false
-and-false true = refl
-and-false false = refl
-
 module _ (file : List ℕ) (place : ℕ) (before : List ℕ) (w : Window) (afterwards : List ℕ) (r : Refilled) where
   pub refill-follows : RefillFollows file place before w afterwards r
   refill-follows f rest refilled more ended =
-      let bytes = unread afterwards (r .window) in
-      let kept : unread before w ≡ take (leftOf w) bytes =
-      sym (refilled .kept) ∙ sym (fronts (r .window .from) (r .window .to) (leftOf w) afterwards (refilled .front) (refilled .more)) in
       record {
         rest = rest;
         next =
-            f .next ∙ ap (λ (l : List ℕ). unread before w ++ l) more ∙ sym (append-assoc (unread before w) (drop (leftOf w) bytes) rest)
-            ∙ ap (λ (l : List ℕ). l ++ rest) (ap (λ (l : List ℕ). l ++ drop (leftOf w) bytes) kept ∙ take-append-drop (leftOf w) bytes);
+            f .next ∙ ap (λ (l : List ℕ). unread before w ++ l) more ∙ sym (append-assoc (unread before w) (drop (leftOf w) (unread afterwards (r .window))) rest)
+            ∙ ap (λ (l : List ℕ). l ++ rest) (sym (unread-refilled before w afterwards r refilled));
         all = ended;
       }
 
 module _ (before : List ℕ) (w : Window) (afterwards : List ℕ) (r : Refilled) where
   pub refill-not-low : RefillNotLow before w afterwards r
-  unfolding lowOf
-  refill-not-low refilled room ok = by (r .window .ended) refl
-    where
-      by : (ended : Bool) → r .window .ended ≡ ended → (ltb (leftOf (r .window)) mostBytes && not (r .window .ended)) ≡ false
-      by true e = rw e (and-false (ltb (leftOf (r .window)) mostBytes))
-      by false e = rw (le-ltb (leftOf (r .window)) mostBytes (omega (arith, refilled .full ok e, refilled .front, room)))
+  refill-not-low refilled room ok = refilled-not-low before w afterwards r refilled mostBytes room ok

@@ -1,4 +1,4 @@
-// single_calls FILE: makes the single connection calls of a file, each on a record of its own, and prints a line for each: the answer, what was
+// single_calls FILE: makes the single connection calls of a file, each on a record of its own in the last slot of a table, and prints a line for each: the answer, what was
 // written, what is delivered, and the record after it. It is there to compare with the independent program, which writes such files. A call in
 // the file: the record 53, kind 1 (as in a trace), now 4, room 2 (the out buffer's length), length 2, bytes.
 ghost use mathlib.Core.Path.{_≡_};
@@ -12,6 +12,7 @@ use connection::Connection;
 use connection::Settings;
 use inputs::Done;
 use inputs::Turned;
+use table::Held;
 use window::Window;
 
 // The fields before a call's bytes.
@@ -22,6 +23,9 @@ const MOST: usize = 1024;
 
 // The bytes of begin.
 const BEGIN: usize = 26;
+
+// The last slot.
+const SLOT: usize = 63;
 
 // Settings stand at byte 1 of a record and of begin's bytes: N 2, T_max 4, E 4, T_start 4, T_off 4, limit 1.
 fn settings_of(s: &[u8]) -> Settings
@@ -72,26 +76,32 @@ fn connection_of(s: &[u8]) -> Connection
 }
 
 // Begin's bytes: role 1, settings 19, first number 2, period 4. Another size is no role.
-fn begun(c: Connection, at: Count, bytes: &[u8], lent: &mut [u8]) -> Called {
+fn begun(t: [Connection; 64], at: Count, bytes: &[u8], lent: &mut [u8]) -> Held {
     if bytes.len() == BEGIN {
         let role = field::read8(bytes, 0);
         let first = field::read16(bytes, 20);
         let period = field::read32(bytes, 22);
-        return calls::begin(c, role, settings_of(bytes), first, period, at, lent);
+        return table::begin_in(t, SLOT, role, settings_of(bytes), first, period, at, lent);
     }
-    let settings = c.settings;
-    calls::begin(c, 255, settings, 0, 0, at, lent)
+    table::begin_in(t, SLOT, 255, settings_of(&[0; 20]), 0, 0, at, lent)
 }
 
 // The call: 1 begin, 2 receive, 3 send, 4 tick, 5 close.
-fn called(kind: u8, c: Connection, at: Count, bytes: &[u8], lent: &mut [u8]) -> Called {
+fn called(kind: u8, t: [Connection; 64], at: Count, bytes: &[u8], lent: &mut [u8]) -> Held {
     match kind {
-        1 => begun(c, at, bytes, lent),
-        2 => calls::receive(c, at, bytes, lent),
-        3 => calls::send(c, at, bytes, lent),
-        4 => calls::tick(c, at),
-        _ => calls::close(c),
+        1 => begun(t, at, bytes, lent),
+        2 => table::receive_in(t, SLOT, at, bytes, lent),
+        3 => table::send_in(t, SLOT, at, bytes, lent),
+        4 => table::tick_in(t, SLOT, at),
+        _ => table::close_in(t, SLOT),
     }
+}
+
+// A table whose other slots are closed.
+fn table_with(c: Connection) -> [Connection; 64] {
+    let mut t = [Connection::released(); 64];
+    t[SLOT] = c;
+    t
 }
 
 // T_start, T_off, the error limit.
@@ -209,7 +219,11 @@ fn make_call(s: &[u8], end: usize, lent: &mut [u8], room: usize) -> Called
     let kind = field::read8(s, 53);
     let c = connection_of(s);
     let at = count_of(s, 54);
-    called(kind, c, at, &s[FIELDS..end], &mut lent[0..room])
+    let held = called(kind, table_with(c), at, &s[FIELDS..end], &mut lent[0..room]);
+    let answer = held.answer;
+    let t = held.table;
+    let next = t[SLOT];
+    Called { answer, next }
 }
 
 // That call, and its line.

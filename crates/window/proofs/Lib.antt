@@ -1,2 +1,3 @@
 pub mod Empty
 pub mod Moved
+pub mod Unread

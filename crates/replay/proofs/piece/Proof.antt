@@ -1,0 +1,86 @@
+-- `replay::piece` meets its contract: room, the window topped up, and the records at hand. Assumes nothing.
+use Prim.Native.Nat.{ℕ}
+use mathlib.Core.Path.{sym, subst}
+use mathlib.Core.Bool.{false≢true}
+use native.Mathlib.Omega.{arith}
+use Rattle.trace.specs.Pieces.{AdvancedTo}
+use borrow.Author.Needs.{needs}
+use Rattle.replay.proofs.piece.Statement.{statement}
+use Rattle.replay.proofs.piece.Tie as tie
+
+make-room-requires : tie.Need-make-room-requires
+make-room-requires c κs = search needs
+
+same-length : tie.Need-same-length
+same-length c = search needs
+
+returns : tie.Need-returns
+returns c =
+    let start = c .before .before .before .before .before .before .before in
+    (λ ok. absurd (false≢true (sym ok)), (start .pre .0 .0, omega (arith, c .before .make-room .ensures .1), omega arith))
+
+topped-up-requires : tie.Need-topped-up-requires
+topped-up-requires c κs = search needs
+
+same-length-2 : tie.Need-same-length-2
+same-length-2 c = search needs
+
+same-length-3 : tie.Need-same-length-3
+same-length-3 c = search needs
+
+returns-2 : tie.Need-returns-2
+returns-2 c =
+    let topped = c .before .before .before .before .topped-up in
+    (λ ok. absurd (false≢true (sym ok)), (topped .ensures .1 .0, omega (arith, c .before .before .before .before .before .before .before .make-room .ensures .1), omega arith))
+
+advance-requires : tie.Need-advance-requires
+advance-requires c κs = search needs
+
+same-length-4 : tie.Need-same-length-4
+same-length-4 c = search needs
+
+same-length-5 : tie.Need-same-length-5
+same-length-5 c = search needs
+
+same-length-6 : tie.Need-same-length-6
+same-length-6 c = search needs
+
+returns-3 : tie.Need-returns-3
+returns-3 c =
+    let start = c .before .before .before .before .before .before .before .before .before .before .before .before .before .before .before .before .before .before .before .before .before in
+    let a = start .args in
+    let place = c .before .before .before .before .before .before .before .before .before .before .before .before .before .before .before .make-room in
+    let topped = c .before .before .before .before .before .before .before .before .before .before .before .before .topped-up in
+    let advance = c .before .before .before .before .advance in
+    let done = advance .ensures in
+    let lies = topped .ensures .1 .0 in (
+      λ _. record {
+        topped = topped .result;
+        up = topped .ensures .0;
+        advanced =
+            subst (λ (n : ℕ). AdvancedTo (topped .last .1 .1 .0) (a .p) (topped .result .window) (a .out .now) n (advance .last .1 .1 .0) (advance .result))
+            (place .ensures .0) done;
+      },
+      (
+        (done .lies .0, omega (arith, done .lies .1, topped .kept .1 .1 .0)),
+        done .within,
+        omega (arith, done .counted, lies .0, lies .1, start .pre .0 .2),
+      ),
+    )
+
+pub piece-spec : {M : Type 1} → statement M
+piece-spec =
+    tie.close
+    (tie.spec
+    make-room-requires
+    same-length
+    returns
+    topped-up-requires
+    same-length-2
+    same-length-3
+    returns-2
+    advance-requires
+    same-length-4
+    same-length-5
+    same-length-6
+    returns-3)

@@ -1,0 +1,7 @@
+pub mod Records
+pub mod Outcomes
+pub mod Slots
+pub mod Turns
+pub mod Reaches
+pub mod Whole
+pub mod Samples

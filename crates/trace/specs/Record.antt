@@ -1,0 +1,72 @@
+-- A record of a trace: its layout, said once, and when it is bad.
+-- Assumes nothing.
+use Prim.Native.Nat.{ℕ, _+_}
+use mathlib.Core.Bool.{Bool, not, _||_}
+use mathlib.Core.List.{List, [], _∷_}
+use lib.Dec.{eqb, ltb}
+use lib.ListN.{length, getD, take, drop}
+use Rattle.rules.specs.Rows.{when_answer_else_}
+use Rattle.field.specs.Row.{fieldsOf, widthOf}
+use Rattle.connection.specs.Connection.{_outside_to_}
+use Rattle.trace.specs.declared.Record.{Record}
+use Rattle.trace.specs.declared.Next.{Next}
+use Rattle.trace.specs.declared.Next.the-variants.{End, Bad, Whole}
+
+-- "Each record, big-endian: mark 52 32, kind 1 (1 begin, 2 receive, 3 send, 4 tick, 5 close), slot 1, now 4, length 2, bytes."
+abbrev pub widths : List ℕ
+widths = 2 ∷ 1 ∷ 1 ∷ 4 ∷ 2 ∷ []
+
+-- the fields by their names, in this order
+abbrev pub named : List ℕ → Record
+named fields = record {
+  mark = getD fields 0 0;
+  kind = getD fields 1 0;
+  slot = getD fields 2 0;
+  now = record { 0 = getD fields 3 0 };
+  length = getD fields 4 0;
+}
+
+-- the fields of the record that stands first
+abbrev pub fieldsAt : List ℕ → Record
+fieldsAt s = named (fieldsOf widths s 0)
+
+-- how many bytes its fields take, and the whole record
+abbrev pub fieldsSize : ℕ
+fieldsSize = widthOf widths
+
+abbrev pub sizeOf : Record → ℕ
+sizeOf r = fieldsSize + r .length
+
+-- its bytes
+abbrev pub bytesIn : List ℕ → Record → List ℕ
+bytesIn s r = take (r .length) (drop fieldsSize s)
+
+-- the most bytes of a record: its length is at most 1,000
+abbrev pub mostLength : ℕ
+mostLength = 1000
+
+abbrev pub mostRecord : ℕ
+mostRecord = fieldsSize + mostLength
+
+-- "A wrong mark,
+unfoldable pub wrongMark : Record → Bool
+wrongMark r = not (eqb (r .mark) 0x5232)
+
+-- unknown kind,
+unfoldable pub unknownKind : Record → Bool
+unknownKind r = (r .kind) outside 1 to 5
+
+-- length over 1,000
+unfoldable pub lengthOver : Record → Bool
+lengthOver r = ltb mostLength (r .length)
+
+-- or cut record"
+unfoldable pub cutRecord : List ℕ → Record → Bool
+cutRecord s r = ltb (length s) (sizeOf r)
+
+-- what stands first in the bytes that are left of a trace
+unfoldable pub recordOf : List ℕ → Next
+recordOf s =
+    when eqb (length s) 0 answer End else
+    when wrongMark (fieldsAt s) || unknownKind (fieldsAt s) || lengthOver (fieldsAt s) || cutRecord s (fieldsAt s) answer Bad else
+    Whole (fieldsAt s)

@@ -1,0 +1,14 @@
+-- 01's samples of what the replay prints.
+-- Assumes nothing.
+use mathlib.Core.Path.{_≡_}
+use mathlib.Core.List.{[], _∷_}
+use Rattle.field.specs.Row.{rowOf}
+use Rattle.text.specs.Ascii.{ascii}
+use Rattle.trace.specs.Record.{widths}
+use Rattle.trace.specs.Replay.{replayOf}
+
+pub record Samples : Type 0 where
+  -- "One tick on slot 0 prints, whole"
+  pub one-tick : replayOf (rowOf widths (0x5232 ∷ 4 ∷ 0 ∷ 0 ∷ 0 ∷ [])) ≡ ascii "slot answer\n0 102\nend 1\n"
+  -- "An empty file prints the first line and `end 0`."
+  pub empty : replayOf [] ≡ ascii "slot answer\nend 0\n"
