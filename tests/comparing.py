@@ -29,22 +29,22 @@ def differ(independent, words, ours, theirs):
 
 
 # Runs both on `count` inputs from a seed; gives the file's bytes and the lines, the same of both.
-def compared(independent, folder, program, kind, seed, count):
+def compared(independent, folder, kind, seed, count):
     words = [kind, str(seed), str(count)]
     name = os.path.join(folder, "%s-%d" % (kind, seed))
     theirs = must([independent] + words + [name])
-    ours = must([os.path.join(ROOT, "tests", "run-program"), program, name])
+    ours = must([os.path.join(ROOT, "tests", "run-program"), "single", kind, name])
     if ours != theirs:
         differ(independent, words, ours, theirs)
     with open(name, "rb") as file:
         return file.read(), ours.decode().splitlines()
 
 
-# Proves and builds the program, builds the independent program in a temporary folder, and runs both for each seed; gives what `compared` gives.
-def compare(program, kind, seeds):
-    must(["rt", "check", program])
+# Proves and builds `single`, builds the independent program in a temporary folder, and runs both for each seed; gives what `compared` gives.
+def compare(kind, seeds):
+    must(["rt", "check", "single"])
     with tempfile.TemporaryDirectory() as folder:
         independent = os.path.join(folder, "independent")
         must([os.path.join(ROOT, "independent", "build"), independent])
         for seed, count in seeds:
-            yield compared(independent, folder, program, kind, seed, count)
+            yield compared(independent, folder, kind, seed, count)

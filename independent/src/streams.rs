@@ -316,7 +316,7 @@ impl Trial {
         )
     }
 
-    /// The step in the file that the Rattle program `steps` reads: flags 1 (1 normal link up, 2 redundant link up, 4 responder, 8 strict,
+    /// The step in the file that the Rattle program `single steps` reads: flags 1 (1 normal link up, 2 redundant link up, 4 responder, 8 strict,
     /// 16 first packet), last number 2, normal place 4, redundant place 4, normal size 2, redundant size 2, the bytes of both links.
     pub fn bytes(&self) -> Vec<u8> {
         let state = self.state;
@@ -332,7 +332,7 @@ impl Trial {
         bytes
     }
 
-    /// The two lines that `steps` prints: that of `cut`, then the state after the step, version, application type and where the data begins.
+    /// The two lines that `single steps` prints: that of `cut`, then the state after the step, version, application type and where the data begins.
     pub fn printed(&self) -> String {
         let (after, step) = self.step();
         let taken = taken_of(&step);

@@ -1,11 +1,11 @@
--- `single_calls::put_delivered` is safe: what is delivered is no longer than the message, so it fits the out buffer. Assumes nothing.
+-- `single::one_call::put_delivered` is safe: what is delivered is no longer than the message, so it fits the out buffer. Assumes nothing.
 use mathlib.Core.Path.{ap}
 use native.Mathlib.Omega.{arith}
 use lib.ListN.{length}
-use Rattle.single_calls.proofs.Delivered.{no-longer}
+use Rattle.single.proofs.Delivered.{no-longer}
 use borrow.Author.Needs.{needs}
-use Rattle.single_calls.proofs.put_delivered.Statement.{statement}
-use Rattle.single_calls.proofs.put_delivered.Tie as tie
+use Rattle.single.proofs.one_call.put_delivered.Statement.{statement}
+use Rattle.single.proofs.one_call.put_delivered.Tie as tie
 
 slice-aggregate-put : tie.Need-slice-aggregate-put
 slice-aggregate-put c = search needs

@@ -1,15 +1,10 @@
-// messages FILE: takes the messages of a file apart, writes each back and prints a line for it: what was read, then what was written. It is there
-// to compare with the independent program, which writes such files. A message in the file: length 2, bytes.
-ghost use mathlib.Core.Path.{_≡_};
+// One message, taken apart and written back, and its line: what was read, then what was written. A message in the file: length 2, bytes.
 ghost use Prim.Native.Nat.{_+_, _≤_};
 ghost use lib.ListN.{length};
-ghost use Rattle.window.specs.Window.{Within};
-use inputs::Done;
-use inputs::Turned;
+use crate::Done;
 use message::Header;
 use message::Parsed;
 use message::Tail;
-use window::Window;
 
 // The header's fields.
 fn put_header(out: &mut [u8], at: usize, h: Header) -> usize
@@ -77,7 +72,7 @@ fn put_line(out: &mut [u8], s: &[u8], parsed: Parsed) -> usize
 }
 
 // The message at the front of s, if it is there whole.
-fn message_at(s: &[u8], out: &mut [u8]) -> Done
+pub fn message_at(s: &[u8], out: &mut [u8]) -> Done
     requires { ⌜ 4096 ≤ length (now out) ⌝ }
     ensures { λ r. ⌜ (r .next ≤ 4096) × (r .used ≤ length (now (s .entry))) ⌝ }
 {
@@ -93,48 +88,4 @@ fn message_at(s: &[u8], out: &mut [u8]) -> Done
         next: put_line(out, &s[2..end], parsed),
         used: end,
     }
-}
-
-// The next message of the file and its line.
-fn turn(fd: i32, buffer: &mut [u8], out: &mut [u8], window: Window) -> Turned
-    requires { ⌜ Within window (length (now buffer)) × (4096 ≤ length (now out)) ⌝ }
-    ensures { λ r. ⌜ Within (r .window) (length (now (buffer .entry))) ⌝ }
-{
-    let topped = inputs::topped_up(fd, buffer, window);
-    let lent = topped.window;
-    let from = lent.from;
-    let to = lent.to;
-    let done = message_at(&buffer[from..to], out);
-    inputs::printed(out, topped, done)
-}
-
-// The messages of a file, one after the other. A proved loop has to end, so it counts its turns down, from a number that no run uses up.
-fn all(fd: i32, buffer: &mut [u8], out: &mut [u8])
-    requires { ⌜ 4096 ≤ length (now out) ⌝ }
-{
-    let mut window = Window::empty();
-    let mut turns = u64::MAX;
-    while turns > 0 {
-        let turned = turn(fd, buffer, out, window);
-        if !turned.goes_on {
-            return;
-        }
-        window = turned.window;
-        turns -= 1;
-    }
-}
-
-fn run(fd: i32) {
-    let mut buffer = io::large_buffer();
-    let mut out = io::buffer();
-    all(fd, &mut buffer, &mut out);
-}
-
-fn main() {
-    let fd = inputs::opened();
-    if fd < 0 {
-        return;
-    }
-    run(fd);
-    libc::close(fd);
 }

@@ -1,18 +1,18 @@
--- `single_calls::all` is safe and ends: the window lies within its buffer. The measure is the number of turns that are left. Assumes nothing.
+-- `single::all` is safe and ends: the window lies within its buffer. The measure is the number of turns that are left. Assumes nothing.
 use mathlib.Core.Path.{_≡_, refl, _∙_}
 use native.Mathlib.Omega.{arith}
 use lib.ListN.{length}
 use Rattle.window.specs.Window.{Within}
 use Rattle.window.proofs.Empty.{none-within}
-use Rattle.single_calls.proofs.all.Statement.{statement}
-use Rattle.single_calls.proofs.all.Tie as tie
+use Rattle.single.proofs.all.Statement.{statement}
+use Rattle.single.proofs.all.Tie as tie
 
 abbrev Inv-loop : tie.InvT-loop
-Inv-loop fd buffer₀ out₀ window₀ turns₀ buffer out window turns =
+Inv-loop kind fd buffer₀ out₀ window₀ turns₀ buffer out window turns =
     (length buffer ≡ length buffer₀) × (length out ≡ length out₀) × Within window (length buffer₀)
 
 abbrev μ-loop : tie.MeasureT-loop
-μ-loop fd buffer₀ out₀ window₀ turns₀ buffer out window turns = turns
+μ-loop kind fd buffer₀ out₀ window₀ turns₀ buffer out window turns = turns
 
 empty-requires : tie.Need-empty-requires Inv-loop μ-loop
 empty-requires c κs = tt
@@ -26,10 +26,10 @@ turn-requires c κs =
     ((inv .2 .0, omega (arith, inv .2 .1, inv .0)), omega (arith, c .before .before .before .before .before .before .before .pre, inv .1))
 
 same-length : tie.Need-same-length Inv-loop μ-loop
-same-length c = c .before .before .before .before .before .before .turn .kept .1 .0 ∙ c .before .before .before .before .before .before .before .before .before .before .loop .inv .0
+same-length c = c .before .before .before .before .before .before .turn .kept .1 .1 .0 ∙ c .before .before .before .before .before .before .before .before .before .before .loop .inv .0
 
 same-length-2 : tie.Need-same-length-2 Inv-loop μ-loop
-same-length-2 c = c .before .before .before .before .before .before .turn .kept .1 .1 .0 ∙ c .before .before .before .before .before .before .before .before .before .before .loop .inv .1
+same-length-2 c = c .before .before .before .before .before .before .turn .kept .1 .1 .1 .0 ∙ c .before .before .before .before .before .before .before .before .before .before .loop .inv .1
 
 returns : tie.Need-returns Inv-loop μ-loop
 returns c = tt
@@ -44,7 +44,7 @@ loop-again : tie.Need-loop-again Inv-loop μ-loop
 loop-again c =
     let turned = c .before .before .before .before .before .before .before .turn in
     let inv = c .before .before .before .before .before .before .before .before .before .before .before .loop .inv in
-    (turned .kept .1 .0 ∙ inv .0, turned .kept .1 .1 .0 ∙ inv .1, (turned .ensures .0, omega (arith, turned .ensures .1, inv .0)))
+    (turned .kept .1 .1 .0 ∙ inv .0, turned .kept .1 .1 .1 .0 ∙ inv .1, (turned .ensures .0, omega (arith, turned .ensures .1, inv .0)))
 
 same-length-3 : tie.Need-same-length-3 Inv-loop μ-loop
 same-length-3 c = c .before .loop .inv .0

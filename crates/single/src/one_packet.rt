@@ -1,14 +1,9 @@
-// packets FILE: writes the packets of a file and prints a line for each: the answer, and the bytes written. It is there to compare with the
-// independent program. A packet in the file: link 1 (1 normal, 0 redundant), version 1, application type 1, number 2, packet type 1, room 2 (the
+// One packet that is written, and its line: the answer, and the bytes written. A packet in the file: link 1 (1 normal, 0 redundant), version 1, application type 1, number 2, packet type 1, room 2 (the
 // out buffer's length), length 2, user data.
-ghost use mathlib.Core.Path.{_≡_};
 ghost use Prim.Native.Nat.{_+_, _≤_};
 ghost use lib.ListN.{length};
-ghost use Rattle.window.specs.Window.{Within};
-use inputs::Done;
-use inputs::Turned;
+use crate::Done;
 use packet::Written;
-use window::Window;
 
 // The fields before the user data.
 const FIELDS: usize = 10;
@@ -49,7 +44,7 @@ fn put_packet(out: &mut [u8], s: &[u8], end: usize, lent: &mut [u8], room: usize
 }
 
 // The packet at the front of s, if it is there whole.
-fn packet_at(s: &[u8], out: &mut [u8]) -> Done
+pub fn packet_at(s: &[u8], out: &mut [u8]) -> Done
     requires { ⌜ 8192 ≤ length (now out) ⌝ }
     ensures { λ r. ⌜ (r .next ≤ 8192) × (r .used ≤ length (now (s .entry))) ⌝ }
 {
@@ -69,48 +64,4 @@ fn packet_at(s: &[u8], out: &mut [u8]) -> Done
         next: put_packet(out, s, end, &mut lent, room),
         used: end,
     }
-}
-
-// The next packet of the file and its line.
-fn turn(fd: i32, buffer: &mut [u8], out: &mut [u8], window: Window) -> Turned
-    requires { ⌜ Within window (length (now buffer)) × (8192 ≤ length (now out)) ⌝ }
-    ensures { λ r. ⌜ Within (r .window) (length (now (buffer .entry))) ⌝ }
-{
-    let topped = inputs::topped_up(fd, buffer, window);
-    let lent = topped.window;
-    let from = lent.from;
-    let to = lent.to;
-    let done = packet_at(&buffer[from..to], out);
-    inputs::printed(out, topped, done)
-}
-
-// The packets of a file, one after the other. A proved loop has to end, so it counts its turns down, from a number that no run uses up.
-fn all(fd: i32, buffer: &mut [u8], out: &mut [u8])
-    requires { ⌜ 8192 ≤ length (now out) ⌝ }
-{
-    let mut window = Window::empty();
-    let mut turns = u64::MAX;
-    while turns > 0 {
-        let turned = turn(fd, buffer, out, window);
-        if !turned.goes_on {
-            return;
-        }
-        window = turned.window;
-        turns -= 1;
-    }
-}
-
-fn run(fd: i32) {
-    let mut buffer = io::large_buffer();
-    let mut out = io::large_buffer();
-    all(fd, &mut buffer, &mut out);
-}
-
-fn main() {
-    let fd = inputs::opened();
-    if fd < 0 {
-        return;
-    }
-    run(fd);
-    libc::close(fd);
 }

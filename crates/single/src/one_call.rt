@@ -1,19 +1,14 @@
-// single_calls FILE: makes the single connection calls of a file, each on a record of its own in the last slot of a table, and prints a line for each: the answer, what was
-// written, what is delivered, and the record after it. It is there to compare with the independent program, which writes such files. A call in
-// the file: the record 53, kind 1 (as in a trace), now 4, room 2 (the out buffer's length), length 2, bytes.
-ghost use mathlib.Core.Path.{_≡_};
+// One connection call, on a record of its own in the last slot of a table, and its line: the answer, what was written, what is delivered, and the record
+// after it. A call in the file: the record 53, kind 1 (as in a trace), now 4, room 2 (the out buffer's length), length 2, bytes.
 ghost use Prim.Native.Nat.{_+_, _≤_};
 ghost use lib.ListN.{length};
-ghost use Rattle.window.specs.Window.{Within};
+use crate::Done;
 use calls::Called;
 use clock::Count;
 use clock::Offset;
 use connection::Connection;
 use connection::Settings;
-use inputs::Done;
-use inputs::Turned;
 use table::Held;
-use window::Window;
 
 // The fields before a call's bytes.
 const FIELDS: usize = 62;
@@ -237,7 +232,7 @@ fn put_call(out: &mut [u8], s: &[u8], end: usize, lent: &mut [u8], room: usize) 
 }
 
 // The call at the front of s, if it is there whole.
-fn call_at(s: &[u8], out: &mut [u8]) -> Done
+pub fn call_at(s: &[u8], out: &mut [u8]) -> Done
     requires { ⌜ 8192 ≤ length (now out) ⌝ }
     ensures { λ r. ⌜ (r .next ≤ 8192) × (r .used ≤ length (now (s .entry))) ⌝ }
 {
@@ -258,48 +253,4 @@ fn call_at(s: &[u8], out: &mut [u8]) -> Done
         next: put_call(out, s, end, &mut lent, room),
         used: end,
     }
-}
-
-// The next call of the file and its line.
-fn turn(fd: i32, buffer: &mut [u8], out: &mut [u8], window: Window) -> Turned
-    requires { ⌜ Within window (length (now buffer)) × (8192 ≤ length (now out)) ⌝ }
-    ensures { λ r. ⌜ Within (r .window) (length (now (buffer .entry))) ⌝ }
-{
-    let topped = inputs::topped_up(fd, buffer, window);
-    let lent = topped.window;
-    let from = lent.from;
-    let to = lent.to;
-    let done = call_at(&buffer[from..to], out);
-    inputs::printed(out, topped, done)
-}
-
-// The calls of a file, one after the other. A proved loop has to end, so it counts its turns down, from a number that no run uses up.
-fn all(fd: i32, buffer: &mut [u8], out: &mut [u8])
-    requires { ⌜ 8192 ≤ length (now out) ⌝ }
-{
-    let mut window = Window::empty();
-    let mut turns = u64::MAX;
-    while turns > 0 {
-        let turned = turn(fd, buffer, out, window);
-        if !turned.goes_on {
-            return;
-        }
-        window = turned.window;
-        turns -= 1;
-    }
-}
-
-fn run(fd: i32) {
-    let mut buffer = io::large_buffer();
-    let mut out = io::large_buffer();
-    all(fd, &mut buffer, &mut out);
-}
-
-fn main() {
-    let fd = inputs::opened();
-    if fd < 0 {
-        return;
-    }
-    run(fd);
-    libc::close(fd);
 }
