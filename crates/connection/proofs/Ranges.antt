@@ -1,4 +1,4 @@
--- What settings in range are.
+-- Of settings in range, the bounds that proofs use.
 -- Assumes nothing.
 use Prim.Native.Nat.{ℕ, _≤_}
 use mathlib.Core.Path.{_≡_, refl, subst}
