@@ -5,6 +5,7 @@ ghost use mathlib.Core.List.{[]};
 ghost use Prim.Native.Nat.{_+_, _^_, _≤_, _<_};
 ghost use lib.ListN.{length};
 ghost use lib.Seq.{sets};
+ghost use Rattle.message.specs.Read.{dataPlace};
 ghost use Rattle.calls.specs.Calls.{
   closeRefusal,
   tickRefusal,
@@ -336,7 +337,7 @@ pub fn close(c: Connection) -> Called
 
 // What a receive delivers, as a part of the message.
 pub fn delivered(message: &[u8], n: usize) -> &[u8]
-    ensures { λ r. ⌜ now r ≡ deliveredOf (now (message .entry)) n ⌝ }
+    ensures { λ r. ⌜ (now r ≡ deliveredOf (now (message .entry)) n) × (r .ptr ≡ dataPlace (message .entry)) ⌝ }
 {
     let data = message::data(message);
     if data.len() < n {

@@ -1,9 +1,10 @@
 -- Taking a message apart: any bytes give a message with its fields or malformed.
-use Prim.Native.Nat.{ℕ, _-_}
+use Prim.Native.Nat.{ℕ, _+_, _-_}
 use mathlib.Core.Bool.{Bool, not, _&&_, _||_}
 use mathlib.Core.List.{List}
 use lib.Dec.{eqb, ltb}
 use lib.ListN.{getD, length, drop}
+use denote.Ref.{RefT}
 use Rattle.rules.specs.Rows.{when_answer_else_}
 use Rattle.clock.specs.Clock.{offsetRead}
 use Rattle.clock.specs.declared.OffsetRead.{OffsetRead}
@@ -30,6 +31,12 @@ tailOf after s = tailFrom after (fieldsOf (widthsOf after) s 15) (length s - 15)
 -- application data starts at byte 15
 abbrev pub dataOf : List ℕ → List ℕ
 dataOf s = drop 15 s
+
+-- and stands there in the message's own memory; the empty part of shorter bytes stands at their front
+unfoldable pub dataPlace : RefT (List ℕ) → ℕ × ℕ
+dataPlace s =
+    when ltb (length (s .now)) 15 answer s .ptr else
+    (s .ptr .0, s .ptr .1 + 15)
 
 -- Malformed, in 01's words: "other pairs are malformed, as are a type or total not listed, a nonzero later stamp in type 1 and a
 -- check byte over 1". The pairs are `offsetRead`'s, and `lists` says of a type and a total whether they are listed.

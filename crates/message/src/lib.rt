@@ -6,7 +6,7 @@ ghost use lib.Seq.{sets};
 ghost use Rattle.field.specs.Row.{widthOf};
 ghost use Rattle.message.specs.Table.{tableOf, lists, totalOf};
 ghost use Rattle.message.specs.Layout.{widthsOf, periodTail, emptyTail, offsetsTail, checkTail, dataTail, offsetsFrom};
-ghost use Rattle.message.specs.Read.{headerOf, tailOf, dataOf, offsetAt, laterStamp, checkOver, wholeOf, parsedOf};
+ghost use Rattle.message.specs.Read.{headerOf, tailOf, dataOf, dataPlace, offsetAt, laterStamp, checkOver, wholeOf, parsedOf};
 ghost use Rattle.message.specs.Write.{headerBytes, offsetBytes, afterBytes, countedOf, allowedOf, writtenOf, outOf};
 use clock::Count;
 use clock::Offset;
@@ -295,7 +295,7 @@ pub fn parse(s: &[u8]) -> Parsed
 
 // The application data, as a part of the message: bytes 15 on.
 pub fn data(s: &[u8]) -> &[u8]
-    ensures { λ r. ⌜ now r ≡ dataOf (now (s .entry)) ⌝ }
+    ensures { λ r. ⌜ (now r ≡ dataOf (now (s .entry))) × (r .ptr ≡ dataPlace (s .entry)) ⌝ }
 {
     if s.len() < 15 {
         return &s[0..0];

@@ -1,5 +1,5 @@
 -- `calls::delivered` meets its contract. Assumes nothing.
-use Prim.Native.Nat.{ℕ, _-_}
+use Prim.Native.Nat.{ℕ, _+_, _-_}
 use mathlib.Core.Path.{_≡_, ap, ap₂, sym, _∙_}
 use mathlib.Core.List.{List}
 use native.Mathlib.Omega.{arith}
@@ -10,12 +10,17 @@ use borrow.Author.Needs.{needs}
 use Rattle.calls.proofs.delivered.Statement.{statement}
 use Rattle.calls.proofs.delivered.Tie as tie
 
+zero-plus : (n : ℕ) → 0 + n ≡ n
+zero-plus n = omega arith
+
 data-requires : tie.Need-data-requires
 data-requires c κs = search needs
 
 returns : tie.Need-returns
 unfolding deliveredOf
-returns c = c .before .«data» .ensures ∙ sym (take-all (c .before .before .before .args .n) _ (omega (arith, ap length (c .before .«data» .ensures))))
+returns c =
+    let d = c .before .«data» .ensures in
+    (d .0 ∙ sym (take-all (c .before .before .before .args .n) _ (omega (arith, ap length (d .0)))), d .1)
 
 sub-result : tie.Need-sub-result
 sub-result c = search needs
@@ -31,7 +36,9 @@ unfolding deliveredOf
 returns-2 c =
     let n : ℕ = c .before .before .before .before .args .n in
     let e : n - 0 ≡ n = omega arith in
-    ap₂ (λ (k : ℕ) (l : List ℕ). take k l) e (c .before .before .«data» .ensures)
+    let d = c .before .before .«data» in
+    let front : (d .result .ptr .0, 0 + d .result .ptr .1) ≡ d .result .ptr = ap (λ (k : ℕ). (d .result .ptr .0, k)) (zero-plus _) in
+    (ap₂ (λ (k : ℕ) (l : List ℕ). take k l) e (d .ensures .0), front ∙ d .ensures .1)
 
 pub delivered-spec : {M : Type 1} → statement M
 delivered-spec =

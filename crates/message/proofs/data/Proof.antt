@@ -1,13 +1,30 @@
 -- `message::data` meets its contract: the part from byte 15 on, empty where there is none.
 -- Assumes nothing.
-use Prim.Native.Nat.{_-_}
-use mathlib.Core.Path.{sym}
+use Prim.Native.Nat.{ℕ, _+_, _-_, _≤_, _<_}
+use mathlib.Core.Path.{_≡_, sym, ap}
+use mathlib.Core.List.{List}
 use native.Mathlib.Omega.{arith}
 use lib.ListN.{length, drop, drop-of-length-le, length-drop}
 use lib.Seq.{take-all}
 use borrow.Author.Needs.{needs}
+use borrow.Author.Tests.{lt-ltb, le-ltb}
+use denote.Ref.{RefT}
+use Rattle.message.specs.Read.{dataPlace}
 use Rattle.message.proofs.data.Statement.{statement}
 use Rattle.message.proofs.data.Tie as tie
+
+-- the places of the two parts
+short : (s : RefT (List ℕ)) → length (s .now) < 15 → (s .ptr .0, 0 + s .ptr .1) ≡ dataPlace s
+unfolding dataPlace
+short s h =
+    let place : 0 + s .ptr .1 ≡ s .ptr .1 = omega arith in
+    simp (lt-ltb _ _ h) (ap (λ (n : ℕ). (s .ptr .0, n)) place)
+
+long : (s : RefT (List ℕ)) → 15 ≤ length (s .now) → (s .ptr .0, 15 + s .ptr .1) ≡ dataPlace s
+unfolding dataPlace
+long s h =
+    let place : 15 + s .ptr .1 ≡ s .ptr .1 + 15 = omega arith in
+    simp (le-ltb _ _ h) (ap (λ (n : ℕ). (s .ptr .0, n)) place)
 
 sub-result : tie.Need-sub-result
 sub-result c = search needs
@@ -19,7 +36,9 @@ part-result-end : tie.Need-part-result-end
 part-result-end c = search needs
 
 returns : tie.Need-returns
-returns c = sym (drop-of-length-le (c .before .before .args .s .now) {i = 15} (omega arith))
+returns c =
+    let s = c .before .before .args .s in
+    (sym (drop-of-length-le (s .now) {i = 15} (omega arith)), short s (omega arith))
 
 sub-result-2 : tie.Need-sub-result-2
 sub-result-2 c = search needs
@@ -32,8 +51,8 @@ part-result-end-2 c = search needs
 
 returns-2 : tie.Need-returns-2
 returns-2 c =
-    let s = c .before .before .args .s .now in
-    take-all (length s - 15) (drop 15 s) (omega (arith, length-drop 15 s))
+    let s = c .before .before .args .s in
+    (take-all (length (s .now) - 15) (drop 15 (s .now)) (omega (arith, length-drop 15 (s .now))), long s (omega arith))
 
 pub data-spec : {M : Type 1} → statement M
 data-spec =
