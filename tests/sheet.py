@@ -33,8 +33,8 @@ class Item:
 
 
 class Case:
-    """One case. `given` goes in, `wanted` must come out, `answer` is what it is about, and the sheet says `says` of it; `triple` is call, phase, answer
-    where it is about one; `readings` are messages with the fields that a comment gives them."""
+    """One case. `rules` are the ids of the rules that it shows; `given` goes in, `wanted` must come out, `answer` is what it is about, and the sheet says
+    `says` of it; `triple` is call, phase, answer where it is about one; `readings` are messages with the fields that a comment gives them."""
 
     def __init__(self, file, name):
         self.file, self.name = file, name
@@ -109,8 +109,8 @@ def parts(file):
             if word in ("case", "record", "history"):
                 case = Case(place, rest)
                 (made if word == "case" else named.setdefault(word, [])).append(case)
-            elif word == "01:":
-                case.rules.append(rest)
+            elif word == "rule:":
+                case.rules += rest.split()
             else:
                 case.items.append(Item(place, text, comment.strip()))
     return made, {word: {part.name: part for part in listed} for word, listed in named.items()}
@@ -407,6 +407,6 @@ def cases():
                 raise Wrong("%s: case %s: %s" % (case.file, case.name, fault))
             case.says = case.says or case.answer
             if not case.rules:
-                raise Wrong("%s: case %s names no line of 01" % (case.file, case.name))
+                raise Wrong("%s: case %s names no rule" % (case.file, case.name))
             made.append(case)
     return made
