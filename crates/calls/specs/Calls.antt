@@ -1,4 +1,4 @@
--- The five calls on one record: the caller's faults in 01's order, the wait that expires, and every byte of the out buffer.
+-- The five calls on one record: the caller's faults in their order, the wait that expires, and every byte of the out buffer.
 use Prim.Native.Nat.{ℕ, _+_}
 use mathlib.Core.Bool.{Bool, true, not, _&&_, _||_}
 use mathlib.Core.List.{List, []}
@@ -22,39 +22,39 @@ use Rattle.judging.specs.Judging.{keeps, releases, sends, stepOf}
 use Rattle.calls.specs.declared.Answer.{Answer}
 use Rattle.calls.specs.declared.Called.{Called}
 
--- ---- caller's faults, judged in the order listed: the number of the first, 0 where there is none
+-- ---- the caller's faults of each call, in CALL-ORDER: the number of the first, 0 where there is none
 
 infixr 1 _then_
 -- the faults of one list, then those of the next
 abbrev pub _then_ : ℕ → ℕ → ℕ
 k then rest = when eqb k 0 answer rest else k
 
--- the slot's record not closed with a setting or phase out of range or an error counter not under its limit
+-- CALL-101 of a record: RECORD-1, where it is not closed (RECORD-2)
 unfoldable pub bad : Connection → Bool
 bad c = not (eqb (c .phase) closed) && unsound c
 
--- Close: 101, 102
+-- CALL-CLOSE: CALL-101, CALL-102
 unfoldable pub closeRefusal : Connection → ℕ
 closeRefusal c =
     when bad c answer 101 else
     when eqb (c .phase) closed answer 102 else
     0
 
--- Tick: 101, 102, 105
+-- CALL-TICK: the two of close, CALL-105
 unfoldable pub tickRefusal : Connection → Count → ℕ
 tickRefusal c now =
     closeRefusal c then
     when goesBack (now .0) (c .clock .0) answer 105 else
     0
 
--- Receive: 101, 102, 105, 108 (25)
+-- CALL-RECEIVE: the three of tick, CALL-108 under 25
 unfoldable pub receiveRefusal : Connection → Count → ℕ → ℕ
 receiveRefusal c now room =
     tickRefusal c now then
     when ltb room 25 answer 108 else
     0
 
--- Send: 101, 102, 105, 106, 107, 108 (15 + data)
+-- CALL-SEND: the three of tick, CALL-106, CALL-107, CALL-108 under 15 + data
 unfoldable pub sendRefusal : Connection → Count → ℕ → ℕ → ℕ
 sendRefusal c now size room =
     tickRefusal c now then
@@ -63,7 +63,7 @@ sendRefusal c now size room =
     when ltb room (15 + size) answer 108 else
     0
 
--- Begin: 101, 103, 104, 108 (initiator, 19); role 0 initiator, 1 responder, others 104
+-- CALL-BEGIN: CALL-101, CALL-103, CALL-104, also of a role but 0 initiator and 1 responder, CALL-108 of an initiator under 19
 unfoldable pub beginRefusal : Connection → ℕ → Settings → ℕ → ℕ
 beginRefusal c role settings room =
     when bad c answer 101 else
@@ -72,52 +72,57 @@ beginRefusal c role settings room =
     when eqb role 0 && ltb room 19 answer 108 else
     0
 
--- no record, no lent byte and no remembered clock changes
+-- CALL-KEPT: nothing changes
 abbrev pub refused : ℕ → Connection → Outcome
 refused k c = keeps k 0 c
 
--- ---- 207
+-- ---- the wait
 
--- a wait begun by a send; the responder's wait for 1 has no timer
+-- WAIT-2: the responder's wait for type 1 and an open connection have no timer
 unfoldable pub timed : ℕ → Bool
 timed phase = not (eqb phase responderWaitsFor1) && not (eqb phase opened)
 
--- expires when now minus that send's now, mod 2^32 and not centred, is >= T_start
+-- WAIT-1: T_start has passed since the send that began the wait
 unfoldable pub expired : Connection → Count → Bool
 expired c now = timed (c .phase) && leb (c .settings .«t_start») (waitOf (now .0) (c .«wait_start» .0))
 
 -- ---- the calls
 
+-- WAIT-4 and PEER-ORDER: PEER-207 comes first of the peer's faults
 unfoldable pub receiveOutcome : Connection → Count → List ℕ → ℕ → Outcome
 receiveOutcome c now message room =
     when not (eqb (receiveRefusal c now room) 0) answer refused (receiveRefusal c now room) c else
     when expired c now answer releases 207 0 else
     stepOf c now (parsedOf message)
 
+-- WAIT-4: PEER-207 also by tick
 unfoldable pub tickOutcome : Connection → Count → Outcome
 tickOutcome c now =
     when not (eqb (tickRefusal c now) 0) answer refused (tickRefusal c now) c else
     when expired c now answer releases 207 0 else
     keeps 0 0 (clocked c now)
 
+-- CALL-CLOSE: a 0 that says released (CALL-SAYS)
 unfoldable pub closeOutcome : Connection → Outcome
 closeOutcome c =
     when not (eqb (closeRefusal c) 0) answer refused (closeRefusal c) c else
     releases 0 0
 
--- application data carries the remembered peer stamp and its arrival
+-- SEND-1: the remembered peer stamp and its arrival
 abbrev pub dataHeader : Connection → Count → Header
 dataHeader c now = record { kind = 6; number = c .«own_number»; stamp = now; «last_peer_stamp» = c .«peer_stamp»; arrival = c .arrival }
 
+-- NUMBER-1: the own number goes on by one
 unfoldable pub sendOutcome : Connection → Count → ℕ → ℕ → Outcome
 sendOutcome c now size room =
     when not (eqb (sendRefusal c now size room) 0) answer refused (sendRefusal c now size room) c else
     sends (dataHeader c now) (dataTail size) (sent (clocked c now))
 
--- OffsetStart: both later stamps are 0
+-- SETUP-1: OffsetStart, with no peer stamp and no arrival (MSG-1)
 abbrev pub startHeader : ℕ → Count → Header
 startHeader first now = record { kind = 1; number = first; stamp = now; «last_peer_stamp» = record { 0 = 0 }; arrival = record { 0 = 0 } }
 
+-- SETUP-1 of an initiator, whose wait begins with it; SETUP-0 of a responder
 unfoldable pub beginOutcome : Connection → ℕ → Settings → ℕ → ℕ → Count → ℕ → Outcome
 beginOutcome c role settings first period now room =
     when not (eqb (beginRefusal c role settings room) 0) answer refused (beginRefusal c role settings room) c else
@@ -146,7 +151,7 @@ answerOf o lent = answerWith o (length (replyBytes (o .reply) lent))
 abbrev pub calledOf : Outcome → List ℕ → Called
 calledOf o lent = calledWith o (length (replyBytes (o .reply) lent))
 
--- bytes of the out buffer past what is written stay
+-- CALL-OUT: what is sent stands at the start, and the bytes behind it stay
 abbrev pub outAfter : Outcome → List ℕ → List ℕ → List ℕ
 outAfter o lent out = sets out 0 (replyBytes (o .reply) lent)
 
@@ -155,6 +160,6 @@ abbrev pub writable : Reply → ℕ → ℕ → Bool
 writable Nothing room n = true
 writable (Send h t) room n = writes room h t n
 
--- what a receive delivers: a part of the message, from byte 15 on
+-- what a receive delivers: a part of the message, from byte 15 on (MSG-DATA); empty where that is nothing (CALL-EMPTY, CALL-TYPE6)
 unfoldable pub deliveredOf : List ℕ → ℕ → List ℕ
 deliveredOf message n = take n (dataOf message)

@@ -1,4 +1,4 @@
--- How a connection opens: the set-up messages of a run of calls on one record since its begin, and the exchange that they must be.
+-- How a connection opens: the set-up messages of a run of calls on one record since its begin, and the exchange that they must be (SHUT-4).
 use Prim.Native.Nat.{ℕ, suc}
 use mathlib.Core.Path.{_≡_}
 use mathlib.Core.Bool.{not, _&&_}
@@ -44,13 +44,13 @@ pub data Run : List Header → Connection → Type 0 where
   ticked : {log : List Header} {c : Connection} → Run log c → (now : Count) → Run log (tickOutcome c now .next)
   closed : {log : List Header} {c : Connection} → Run log c → Run log (closeOutcome c .next)
 
--- the exchange, the newest message first: type 1, and each one's type is the next, and it echoes, as last peer stamp, the stamp of the one before
+-- the exchange, the newest message first: type 1, and each one's type is the next, and it echoes the stamp of the one before (ECHO-1)
 pub data Exchange : List Header → Type 0 where
   first : (h : Header) → h .kind ≡ 1 → Exchange (h ∷ [])
   next : (h g : Header) (log : List Header) → Exchange (g ∷ log) → h .kind ≡ suc (g .kind) → h .«last_peer_stamp» .0 ≡ g .stamp .0
       → Exchange (h ∷ g ∷ log)
 
--- all five messages, in order, each echoing the one before
+-- SHUT-4: all five messages, in order, each echoing the one before
 pub record FiveMessages (log : List Header) : Type 0 where
   pub exchange : Exchange log
   pub five : length log ≡ 5

@@ -17,7 +17,9 @@ abbrev pub _among_ : ℕ → List ℕ → Bool
 k among [] = false
 k among (n ∷ ns) = eqb k n || (k among ns)
 
--- "Begin: 101, 103, 104, 108. Receive: 101, 102, 105, 108. Send: 101, 102, 105, 106, 107, 108. Tick: 101, 102, 105. Close: 101, 102."
+-- ---- the numbers that each call answers
+
+-- CALL-BEGIN, CALL-RECEIVE, CALL-SEND, CALL-TICK, CALL-CLOSE: the numbers with which each refuses, in their order
 abbrev pub beginRefuses : List ℕ
 beginRefuses = 101 ∷ 103 ∷ 104 ∷ 108 ∷ []
 
@@ -33,11 +35,11 @@ tickRefuses = 101 ∷ 102 ∷ 105 ∷ []
 abbrev pub closeRefuses : List ℕ
 closeRefuses = 101 ∷ 102 ∷ []
 
--- "Peer's faults, in order": 207, 201, 211, 202, 203, 208, 209, 206, 205, 204
+-- PEER-ORDER
 abbrev pub peersFaults : List ℕ
 peersFaults = 207 ∷ 201 ∷ 211 ∷ 202 ∷ 203 ∷ 208 ∷ 209 ∷ 206 ∷ 205 ∷ 204 ∷ []
 
--- "Success is 0"
+-- CALL-0: a 0 beside them
 abbrev pub beginNumbers : List ℕ
 beginNumbers = beginRefuses ++ (0 ∷ [])
 
@@ -57,15 +59,15 @@ closeNumbers = closeRefuses ++ (0 ∷ [])
 abbrev pub callersFault : ℕ → Bool
 callersFault k = leb 100 k && ltb k 200
 
--- "no record, no lent byte and no remembered clock changes", and the slot is not released
+-- DEMAND-1, CALL-KEPT: what a caller's fault leaves
 pub record Unchanged (c : Connection) (o : Outcome) : Type 0 where
   pub same-record : o .next ≡ c
   pub nothing-written : o .reply ≡ Nothing
   pub nothing-delivered : o .delivered ≡ 0
   pub not-released : o .released ≡ false
 
--- Whether a receive or a tick that answers k to this record releases it. "Every error in set-up releases"; when open 203 does, 201 and 211 don't, and
--- 202, 204, 205 and 206 do where they reach the limit.
+-- PEER-SAYS, CALL-SAYS: whether a receive or a tick that answers k to this record releases it. Set-up's errors do (SETUP-ERR); when open 203 does
+-- (PEER-203), 201 and 211 don't (PEER-OPEN), and 202, 204, 205 and 206 do where they reach the limit (ERR-2).
 unfoldable pub releasedBy : Connection → ℕ → Bool
 releasedBy c k =
     when eqb k 0 || callersFault k answer false else
@@ -74,15 +76,15 @@ releasedBy c k =
     when eqb k 201 || eqb k 211 answer false else
     leb (c .settings .limit) (c .errors + 1)
 
--- closed, or with every setting and the phase in range and the error counter under its limit
+-- closed, or not as RECORD-1 says
 abbrev pub Valid : Connection → Type 0
 Valid c = (c .phase ≡ closed) ⊎ (unsound c ≡ false)
 
--- "a released slot is all zero", and any other stays valid
+-- RECORD-3 of a released slot; any other stays valid
 pub record Stays (o : Outcome) : Type 0 where
   pub zero : o .released ≡ true → o .next ≡ released
   pub valid : o .released ≡ false → Valid (o .next)
 
--- "delivered": a 0 or a 204 of an open connection
+-- AGE-4, PEER-204: delivered with a 0 or a 204 of an open connection
 unfoldable pub deliversTo : Connection → ℕ → Bool
 deliversTo c k = eqb (c .phase) opened && (eqb k 0 || eqb k 204)

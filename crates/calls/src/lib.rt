@@ -36,7 +36,7 @@ use message::Header;
 use message::Tail;
 
 pub struct Answer {
-    // 01's number.
+    // 0, or the number of the fault.
     pub number: u16,
     pub released: bool,
     // How many bytes were written at the start of the out buffer.
@@ -51,7 +51,7 @@ pub struct Called {
     pub next: Connection,
 }
 
-// 101, 102.
+// CALL-CLOSE.
 fn close_refusal(c: Connection) -> u16
     ensures { λ r. ⌜ r ≡ closeRefusal c ⌝ }
 {
@@ -64,7 +64,7 @@ fn close_refusal(c: Connection) -> u16
     0
 }
 
-// 101, 102, 105.
+// CALL-TICK.
 fn tick_refusal(c: Connection, now: Count) -> u16
     ensures { λ r. ⌜ r ≡ tickRefusal c now ⌝ }
 {
@@ -79,7 +79,7 @@ fn tick_refusal(c: Connection, now: Count) -> u16
     k
 }
 
-// 101, 102, 105, 108.
+// CALL-RECEIVE.
 fn receive_refusal(c: Connection, now: Count, room: usize) -> u16
     ensures { λ r. ⌜ r ≡ receiveRefusal c now room ⌝ }
 {
@@ -93,7 +93,7 @@ fn receive_refusal(c: Connection, now: Count, room: usize) -> u16
     k
 }
 
-// 101, 102, 105, 106, 107, 108.
+// CALL-SEND.
 fn send_refusal(c: Connection, now: Count, size: usize, room: usize) -> u16
     ensures { λ r. ⌜ r ≡ sendRefusal c now size room ⌝ }
 {
@@ -113,7 +113,7 @@ fn send_refusal(c: Connection, now: Count, size: usize, room: usize) -> u16
     k
 }
 
-// 104, 108 of a closed slot.
+// CALL-104 and CALL-108 of a closed slot.
 fn begin_refusal(c: Connection, role: u8, settings: Settings, room: usize) -> u16
     ensures { λ r. ⌜ r ≡ beginRefusal c role settings room ⌝ }
 {
@@ -138,7 +138,7 @@ fn begin_refusal(c: Connection, role: u8, settings: Settings, room: usize) -> u1
     0
 }
 
-// Whether a wait begun by a send is over.
+// WAIT-1, WAIT-2: whether a wait begun by a send is over.
 fn has_expired(c: Connection, now: Count) -> bool
     ensures { λ r. ⌜ r ≡ expired c now ⌝ }
 {
@@ -257,7 +257,7 @@ fn begin_outcome(
     judging::kept(0, 0, Connection::begun(settings, 3, first, period, now))
 }
 
-// Writes what is sent at the start of out, and answers how many bytes.
+// CALL-OUT: writes what is sent at the start of out, and answers how many bytes.
 fn put(reply: Reply, data: &[u8], out: &mut [u8]) -> usize
     requires { ⌜ writable reply (length (now out)) (length (now «data»)) ≡ true ⌝ }
     ensures { λ r. ⌜ (r ≡ length (replyBytes reply (now («data» .entry))))
@@ -335,7 +335,7 @@ pub fn close(c: Connection) -> Called
     answered(close_outcome(c), 0)
 }
 
-// What a receive delivers, as a part of the message.
+// CALL-EMPTY, MSG-DATA: what a receive delivers, as a part of the message.
 pub fn delivered(message: &[u8], n: usize) -> &[u8]
     ensures { λ r. ⌜ (now r ≡ deliveredOf (now (message .entry)) n) × (r .ptr ≡ dataPlace (message .entry)) ⌝ }
 {

@@ -10,33 +10,43 @@ use Rattle.message.specs.declared.Header.{Header}
 use Rattle.connection.specs.declared.Settings.{Settings}
 use Rattle.connection.specs.declared.Connection.{Connection}
 
--- Phases: closed; initiator waits for 2, then 4; responder waits for 1, then 3, then 5; open
+-- ---- the phases, by their numbers
+
+-- PHASE-0
 abbrev pub closed : ℕ
 closed = 0
 
+-- PHASE-1
 abbrev pub initiatorWaitsFor2 : ℕ
 initiatorWaitsFor2 = 1
 
+-- PHASE-2
 abbrev pub initiatorWaitsFor4 : ℕ
 initiatorWaitsFor4 = 2
 
+-- PHASE-3
 abbrev pub responderWaitsFor1 : ℕ
 responderWaitsFor1 = 3
 
+-- PHASE-4
 abbrev pub responderWaitsFor3 : ℕ
 responderWaitsFor3 = 4
 
+-- PHASE-5
 abbrev pub responderWaitsFor5 : ℕ
 responderWaitsFor5 = 5
 
+-- PHASE-6
 abbrev pub opened : ℕ
 opened = 6
+
+-- ---- ranges
 
 infix 40 _outside_to_
 unfoldable pub _outside_to_ : ℕ → ℕ → ℕ → Bool
 x outside least to most = ltb x least || ltb most x
 
--- Settings: N 1..1,000; T_max 1..60,000; E 0..T_max; T_start 1..60,000; T_off 0..60,000; error limit 1..255
+-- RANGE-N, RANGE-TMAX, RANGE-E, RANGE-TSTART, RANGE-TOFF, RANGE-LIMIT, a row each
 unfoldable pub outOfRange : Settings → Bool
 outOfRange s =
     (s .n) outside 1 to 1000
@@ -46,14 +56,16 @@ outOfRange s =
     || (s .«t_off») outside 0 to 60000
     || (s .limit) outside 1 to 255
 
--- of a record that is not closed: a setting or phase out of range or an error counter not under its limit
+-- RECORD-1, of a record that is not closed: its settings, its phase, its error counter
 unfoldable pub unsound : Connection → Bool
 unsound c = outOfRange (c .settings) || (c .phase) outside 1 to 6 || leb (c .settings .limit) (c .errors)
 
 abbrev pub noSettings : Settings
 noSettings = record { n = 0; «t_max» = 0; e = 0; «t_start» = 0; «t_off» = 0; limit = 0 }
 
--- a released slot is all zero
+-- ---- records, and what changes together
+
+-- RECORD-3: all zero
 abbrev pub released : Connection
 released =
     record {
@@ -71,7 +83,7 @@ released =
       clock = record { 0 = 0 };
     }
 
--- the remembered clock
+-- KIND-5: the remembered clock
 abbrev pub clocked : Connection → Count → Connection
 clocked c now =
     record {
@@ -89,7 +101,7 @@ clocked c now =
       clock = now;
     }
 
--- the error counter
+-- ERR-1, ERR-4: the error counter
 abbrev pub counted : Connection → ℕ → Connection
 counted c errors =
     record {
@@ -107,7 +119,7 @@ counted c errors =
       clock = c .clock;
     }
 
--- the last number, the remembered peer stamp and its arrival
+-- ERR-6: the last number, the remembered peer stamp and its arrival
 abbrev pub heard : Connection → Header → Count → Connection
 heard c h now =
     record {
@@ -125,7 +137,7 @@ heard c h now =
       clock = c .clock;
     }
 
--- one message more was sent
+-- NUMBER-1: one message more was sent
 abbrev pub sent : Connection → Connection
 sent c =
     record {
@@ -143,7 +155,7 @@ sent c =
       clock = c .clock;
     }
 
--- a phase, and the now of the send that began its wait
+-- WAIT-1: a phase, and the now of the send that began its wait
 abbrev pub waiting : Connection → ℕ → Count → Connection
 waiting c phase since =
     record {
@@ -161,6 +173,7 @@ waiting c phase since =
       clock = c .clock;
     }
 
+-- OFFSET-2, OFFSET-3: the offsets of set-up
 abbrev pub withOffsets : Connection → Offset → Offset → Connection
 withOffsets c min max =
     record {
@@ -178,7 +191,7 @@ withOffsets c min max =
       clock = c .clock;
     }
 
--- the record of begin, before anything was sent
+-- the record of begin, before anything was sent: every field anew (RECORD-2), any first number and period (RANGE-FREE), begin's now (KIND-5), no wait (WAIT-3)
 abbrev pub begun : Settings → ℕ → ℕ → ℕ → Count → Connection
 begun settings phase first period now =
     record {

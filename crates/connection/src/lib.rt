@@ -18,7 +18,7 @@ pub struct Settings {
 }
 
 pub struct Connection {
-    // 0 closed; 1 initiator waits for 2, 2 then for 4; 3 responder waits for 1, 4 then for 3, 5 then for 5; 6 open.
+    // One of PHASE-0 to PHASE-6.
     pub phase: u8,
     pub settings: Settings,
     // Own next number.
@@ -29,13 +29,13 @@ pub struct Connection {
     // That message's stamp, and own count at its arrival.
     pub peer_stamp: Count,
     pub arrival: Count,
-    // The now of the send that began the wait; 0 where no wait with a timer runs.
+    // The now of the send that began the wait; 0 where no wait with a timer runs (WAIT-3).
     pub wait_start: Count,
     pub min: Offset,
     pub max: Offset,
     // The error counter.
     pub errors: u8,
-    // The last accepted now.
+    // The remembered clock (KIND-5).
     pub clock: Count,
 }
 
@@ -72,7 +72,7 @@ impl Settings {
 }
 
 impl Connection {
-    // Of a record that is not closed: 01's 101.
+    // RECORD-1, of a record that is not closed.
     pub fn unsound(self) -> bool
         ensures { λ r. ⌜ r ≡ unsound self ⌝ }
     {
@@ -134,7 +134,7 @@ impl Connection {
         }
     }
 
-    // The remembered clock.
+    // KIND-5: the remembered clock.
     pub fn clocked(mut self, at: Count) -> Connection
         ensures { λ r. ⌜ r ≡ clocked self at ⌝ }
     {
@@ -161,7 +161,7 @@ impl Connection {
         self
     }
 
-    // One message more was sent.
+    // NUMBER-1: one message more was sent.
     pub fn sent(mut self) -> Connection
         ensures { λ r. ⌜ r ≡ sent self ⌝ }
     {

@@ -1,4 +1,4 @@
--- The peer's faults of one message, in 01's order from 211 on.
+-- The peer's faults of one message, in PEER-ORDER's order from 211 on.
 use Prim.Native.Nat.{ℕ}
 use mathlib.Core.Bool.{Bool, not, _&&_, _||_}
 use lib.Dec.{ltb, leb, eqb}
@@ -15,7 +15,7 @@ use Rattle.connection.specs.Connection.{initiatorWaitsFor2, initiatorWaitsFor4,
 use Rattle.faults.specs.declared.Expectation.{Expectation}
 use Rattle.faults.specs.declared.Expectation.the-variants.{Expected, Unexpected, Released}
 
--- initiator waits for 2, then 4; responder waits for 1, then 3, then 5; open takes type 6
+-- PEER-211: each phase from PHASE-1 to PHASE-6 expects one type
 unfoldable pub expectationOf : ℕ → ℕ → Expectation
 expectationOf phase type =
     when eqb phase initiatorWaitsFor2 && eqb type 2 answer Expected else
@@ -29,50 +29,51 @@ expectationOf phase type =
 
 -- ---- the numbers, the echo, the clock check and the age
 
--- the first message's number is not judged: type 1 at the responder, type 2 at the initiator
+-- PEER-FIRST: type 1 comes first at the responder, type 2 at the initiator
 unfoldable pub numberJudged : ℕ → Bool
 numberJudged type = ltb 2 type
 
--- 202 number d = 0 or >= 32768
+-- PEER-202: d = 0 or >= 32768
 unfoldable pub dropped : ℕ → ℕ → Bool
 dropped type d = numberJudged type && (eqb d 0 || leb 32768 d)
 
--- 203 d > N
+-- PEER-203: d > N
 unfoldable pub tooFar : ℕ → ℕ → ℕ → Bool
 tooFar type d n = numberJudged type && ltb n d
 
--- 204 gap, 2 <= d (<= N by the row of 203)
+-- PEER-204: 2 <= d; it is <= N by the row of 203
 unfoldable pub gap : ℕ → ℕ → Bool
 gap type d = numberJudged type && leb 2 d
 
--- 208: each of messages 2 to 5 must echo, as last peer stamp, the stamp of the one before, which we sent
+-- PEER-208: ECHO-1 does not hold of a type 2, 3, 4 or 5; SLIP-4 leaves this out of type 2
 unfoldable pub wrongEcho : ℕ → ℕ → ℕ → Bool
 wrongEcho type echo stamp = leb 2 type && leb type 5 && not (eqb echo stamp)
 
--- its max + peer's min is 0; its max - its min is not negative; the size of its min + peer's max is at most T_off
+-- EST-1, EST-2, EST-3, a row each
 unfoldable pub accepts : ℤ → ℤ → ℤ → ℤ → ℕ → Bool
 accepts min max peer-min peer-max t-off =
     eqb (natAbs (centred (max +ℤ peer-min))) 0
     && not (ltZ (centred (max -ℤ min)) (pos 0))
     && leb (natAbs (centred (min +ℤ peer-max))) t-off
 
--- 209 clock check failed: the initiator's on OffsetEst, the responder's on OffsetEnd 0
+-- PEER-209: the initiator's EST-209 on OffsetEst, the responder's END-0 on OffsetEnd
 unfoldable pub checkFailed : Connection → ℕ → Tail → Bool
 checkFailed c type t =
     eqb type 4 && not (accepts (c .min .0) (c .max .0) (t .min .0) (t .max .0) (c .settings .«t_off»))
     || eqb type 5 && eqb (t .check) 0
 
--- the age by which a message is judged: the record has E and min
+-- AGE-1: the age by which a message is judged, and of which DEMAND-3 speaks (OPEN-3); the record has E and min. SLIP-1 takes the max.
 abbrev pub messageAge : Connection → Count → Header → ℤ
 messageAge c now h = ageOf (now .0) (h .stamp .0) (c .settings .e) (c .min .0)
 
--- 206 and 205: for type 6 only
+-- PEER-206, PEER-205: for type 6 only
 unfoldable pub ageNumber : Connection → Count → Header → ℕ
 ageNumber c now h =
     when eqb (h .kind) 6 answer verdictNumber (verdictOf (messageAge c now h) (c .settings .«t_max»)) else
     0
 
--- the peer's faults of a message that is expected, in order; 0 where there is none
+-- PEER-ORDER from 202 on, of a message that is expected; 0 where there is no fault. In set-up the same rows judge (PEER-SETUP). The number comes
+-- before the age (SLIP-3), and d is taken mod 65536 (SLIP-2).
 unfoldable pub faultOf : Connection → Count → Header → Tail → ℕ
 faultOf c now h t =
     when dropped (h .kind) (distanceOf (h .number) (c .«last_number»)) answer 202 else

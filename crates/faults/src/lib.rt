@@ -1,4 +1,4 @@
-// The peer's faults of one message, in 01's order: whether its type is expected, and the first fault of one that is.
+// The peer's faults of one message, in PEER-ORDER's order: whether its type is expected, and the first fault of one that is.
 ghost use mathlib.Core.Path.{_≡_};
 ghost use Rattle.clock.specs.Clock.{verdictNumber};
 ghost use Rattle.faults.specs.Faults.{expectationOf, dropped, tooFar, gap, wrongEcho, accepts, checkFailed, ageNumber, faultOf};
@@ -10,7 +10,7 @@ use connection::Connection;
 use message::Header;
 use message::Tail;
 
-// Whether a message's type is the one awaited: if not, 211, and in set-up released.
+// PEER-211: whether a message's type is the one awaited; if not, in set-up released.
 pub enum Expectation {
     Expected,
     Unexpected,
@@ -91,7 +91,7 @@ fn is_wrong_echo(kind: u8, echo: Count, stamp: Count) -> bool
     echo.0 != stamp.0
 }
 
-// The initiator's test of the offsets that OffsetEst carries.
+// EST-1, EST-2, EST-3: the initiator's test of the offsets that OffsetEst carries.
 fn are_accepted(min: Offset, max: Offset, peer_min: Offset, peer_max: Offset, t_off: u32) -> bool
     ensures { λ r. ⌜ r ≡ accepts (min .0) (max .0) («peer_min» .0) («peer_max» .0) «t_off» ⌝ }
 {
@@ -150,7 +150,7 @@ fn age_number(c: Connection, now: Count, h: Header) -> u16
     verdict_number(age.judged(settings.t_max))
 }
 
-// The peer's faults of a message that is expected, in 01's order.
+// PEER-ORDER from 202 on, of a message that is expected.
 pub fn fault(c: Connection, now: Count, h: Header, t: Tail) -> u16
     ensures { λ r. ⌜ r ≡ faultOf c now h t ⌝ }
 {

@@ -120,7 +120,7 @@ fn start_taken(c: Connection, now: Count, h: Header) -> Outcome
     )
 }
 
-// Our message's stamp minus its reported arrival.
+// OFFSET-2, OFFSET-3, OFFSET-4: our message's stamp minus its reported arrival.
 fn min_of(c: Connection, h: Header) -> Offset
     ensures { λ r. ⌜ r ≡ minOf c h ⌝ }
 {
@@ -129,7 +129,7 @@ fn min_of(c: Connection, h: Header) -> Offset
     Offset::between(sent, reported)
 }
 
-// The arrival of the peer's message minus its stamp.
+// OFFSET-2, OFFSET-3: the arrival of the peer's message minus its stamp.
 fn max_of(now: Count, h: Header) -> Offset
     ensures { λ r. ⌜ r ≡ maxOf now h ⌝ }
 {
@@ -207,7 +207,7 @@ fn refusing(c: Connection, now: Count, h: Header) -> Outcome
     }
 }
 
-// One error more: at the limit the slot is released.
+// ERR-1, ERR-2: one error more, and at the limit the slot is released.
 fn raised(c: Connection, answer: u16, delivered: usize) -> Outcome
     ensures { λ r. ⌜ r ≡ raises c answer delivered ⌝ }
 {

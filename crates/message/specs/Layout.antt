@@ -1,4 +1,4 @@
--- The fields of a message, in 01's order: said once as widths, for reading and for writing.
+-- The fields of a message, in their order: said once as widths, for reading and for writing.
 use Prim.Native.Nat.{ℕ}
 use mathlib.Core.List.{List, [], _∷_, _++_}
 use lib.ListN.{getD}
@@ -12,7 +12,7 @@ use Rattle.message.specs.declared.TailRead.{TailRead}
 use Rattle.message.specs.declared.After.{After}
 use Rattle.message.specs.declared.After.the-variants.{Period, Nothing, Offsets, Check, Data}
 
--- header, 15 bytes: type 1, number 2, sender stamp 4, last peer stamp 4, own count at its arrival 4
+-- MSG-HEAD: type 1, number 2, sender stamp 4, last peer stamp 4, own count at its arrival 4
 abbrev pub headerWidths : List ℕ
 headerWidths = 1 ∷ 2 ∷ 4 ∷ 4 ∷ 4 ∷ []
 
@@ -31,11 +31,11 @@ headerFrom f =
       arrival = record { 0 = getD f 4 0 };
     }
 
--- an offset: sign 1, magnitude 4
+-- MSG-SIGN: sign 1, magnitude 4
 abbrev pub offsetWidths : List ℕ
 offsetWidths = 1 ∷ 4 ∷ []
 
--- after the header: period 4; nothing; sign 1, min 4, sign 1, max 4; check byte; data, which is no field
+-- after the header: MSG-1, MSG-2 period 4; MSG-3 nothing; MSG-4 sign 1, min 4, sign 1, max 4; MSG-5 check byte; MSG-6 data, which is no field
 abbrev pub widthsOf : After → List ℕ
 widthsOf Period = 4 ∷ []
 widthsOf Nothing = []
@@ -49,7 +49,7 @@ tail period min max check n = record { period = period; min = min; max = max; ch
 abbrev pub noOffset : Offset
 noOffset = record { 0 = pos 0 }
 
--- what a type does not have is 0
+-- MSG-FIELDS: what a type does not have is 0
 abbrev pub periodTail : ℕ → Tail
 periodTail period = tail period noOffset noOffset 0 0
 
@@ -65,7 +65,7 @@ checkTail check = tail 0 noOffset noOffset check 0
 abbrev pub dataTail : ℕ → Tail
 dataTail n = tail 0 noOffset noOffset 0 n
 
--- an offset goes as sign and magnitude
+-- MSG-SIGN: an offset goes as sign and magnitude
 abbrev pub offsetFields : Offset → List ℕ
 offsetFields offset = signMagnitudeOf (offset .0) .sign ∷ signMagnitudeOf (offset .0) .magnitude ∷ []
 
@@ -77,7 +77,7 @@ afterFields Offsets t = offsetFields (t .min) ++ offsetFields (t .max)
 afterFields Check t = t .check ∷ []
 afterFields Data t = []
 
--- min and max as read: each must be one of 01's pairs of sign and magnitude
+-- MSG-PAIR: min and max as read, each of which must be a pair that MSG-SIGN has
 abbrev pub offsetsFrom : OffsetRead → OffsetRead → TailRead
 offsetsFrom OffsetRead.Malformed max = TailRead.Malformed
 offsetsFrom (OffsetRead.Is min) OffsetRead.Malformed = TailRead.Malformed

@@ -16,7 +16,7 @@ use Rattle.message.specs.declared.TailRead.{TailRead}
 use Rattle.message.specs.declared.After.{After}
 use Rattle.message.specs.declared.Parsed.{Parsed}
 
--- the header is the first 15 bytes
+-- MSG-HEAD: the first 15 bytes
 abbrev pub headerOf : List ℕ → Header
 headerOf s = headerFrom (fieldsOf headerWidths s 0)
 
@@ -28,24 +28,23 @@ offsetAt s at = offsetRead (getD (fieldsOf offsetWidths s at) 0 0) (getD (fields
 abbrev pub tailOf : After → List ℕ → TailRead
 tailOf after s = tailFrom after (fieldsOf (widthsOf after) s 15) (length s - 15)
 
--- application data starts at byte 15
+-- MSG-DATA: application data starts at byte 15
 abbrev pub dataOf : List ℕ → List ℕ
 dataOf s = drop 15 s
 
--- and stands there in the message's own memory; the empty part of shorter bytes stands at their front
+-- MSG-DATA: and stands there in the message's own memory; the empty part of shorter bytes stands at their front
 unfoldable pub dataPlace : RefT (List ℕ) → ℕ × ℕ
 dataPlace s =
     when ltb (length (s .now)) 15 answer s .ptr else
     (s .ptr .0, s .ptr .1 + 15)
 
--- Malformed, in 01's words: "other pairs are malformed, as are a type or total not listed, a nonzero later stamp in type 1 and a
--- check byte over 1". The pairs are `offsetRead`'s, and `lists` says of a type and a total whether they are listed.
+-- Malformed: MSG-PAIR, which `offsetRead` says of a pair; MSG-LISTED, which `lists` says of a type and a total; MSG-LATER; MSG-CHECK.
 
--- a nonzero later stamp in type 1
+-- MSG-LATER: in type 1, a last peer stamp or an arrival that is not 0
 unfoldable pub laterStamp : Header → Bool
 laterStamp h = eqb (h .kind) 1 && (not (eqb (h .«last_peer_stamp» .0) 0) || not (eqb (h .arrival .0) 0))
 
--- a check byte over 1
+-- MSG-CHECK: over 1
 unfoldable pub checkOver : ℕ → Bool
 checkOver check = ltb 1 check
 
@@ -57,6 +56,7 @@ wholeOf h (TailRead.Is t) =
     when checkOver (t .check) answer Parsed.Malformed else
     Parsed.Whole h t
 
+-- MSG-LISTED first: of other totals there are no fields
 unfoldable pub parsedOf : List ℕ → Parsed
 parsedOf s =
     when not (lists (tableOf (headerOf s .kind)) (length s)) answer Parsed.Malformed else

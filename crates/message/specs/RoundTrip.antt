@@ -1,4 +1,4 @@
--- Which messages the round trips are about.
+-- Which messages the round trips of DEMAND-2 are about.
 use Prim.Native.Nat.{ℕ, _<_, _^_}
 use mathlib.Core.Path.{_≡_}
 use mathlib.Core.Bool.{true}
@@ -33,7 +33,7 @@ onlyOf Offsets t = offsetsTail (t .min) (t .max)
 onlyOf Check t = checkTail (t .check)
 onlyOf Data t = dataTail (t .«data»)
 
--- a message that 01's table allows, whose tail has nothing but what its type has
+-- a message that the table allows, whose tail has nothing but what its type has (MSG-FIELDS)
 pub record Allowed (h : Header) (t : Tail) (lent : List ℕ) : Type 0 where
   pub by-table : allowedOf h t (length lent) ≡ true
   pub only : onlyOf (tableOf (h .kind) .after) t ≡ t

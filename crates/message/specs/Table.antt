@@ -1,4 +1,4 @@
--- 01's table of message types: what stands after the 15-byte header, and the total.
+-- The table of message types: what stands after the 15-byte header, and the total.
 use Prim.Native.Nat.{ℕ, _+_}
 use mathlib.Core.Bool.{Bool, _&&_}
 use lib.Dec.{eqb, leb, ltb}
@@ -12,7 +12,7 @@ infixr 2 _total_to_
 abbrev pub _total_to_ : After → ℕ → ℕ → Listed
 after total least to most = record { after = after; least = least; most = most }
 
--- 1 OffsetStart, 2 OffsetAnsw1, 3 OffsetAnsw2, 4 OffsetEst, 5 OffsetEnd, 6 application.
+-- MSG-1 OffsetStart, MSG-2 OffsetAnsw1, MSG-3 OffsetAnsw2, MSG-4 OffsetEst, MSG-5 OffsetEnd, MSG-6 application; MSG-TOTAL: 1,000 at most.
 -- A type that is not listed has no total: none is at least 1 and at most 0.
 unfoldable pub tableOf : ℕ → Listed
 tableOf type =
@@ -24,7 +24,7 @@ tableOf type =
     when eqb type 6 answer Data total 15 to 1000 else
     (Nothing total 1 to 0)
 
--- whether a row lists this size as a total
+-- MSG-LISTED: whether a row lists this size as a total
 unfoldable pub lists : Listed → ℕ → Bool
 lists row size = leb (row .least) size && leb size (row .most)
 

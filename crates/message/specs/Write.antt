@@ -22,7 +22,7 @@ headerBytes h = rowOf headerWidths (headerFields h)
 abbrev pub offsetBytes : Offset → List ℕ
 offsetBytes offset = rowOf offsetWidths (offsetFields offset)
 
--- the application data lent, in a type that has data
+-- MSG-DATA: the application data lent, in a type that has data
 abbrev pub dataIn : After → List ℕ → List ℕ
 dataIn Period lent = []
 dataIn Nothing lent = []
@@ -45,7 +45,7 @@ countedOf Offsets said n = true
 countedOf Check said n = true
 countedOf Data said n = eqb said n
 
--- what 01's table allows, of a message with n bytes of data lent
+-- MSG-WRITE: what reading does not call malformed, of a message with n bytes of data lent
 unfoldable pub allowedOf : Header → Tail → ℕ → Bool
 allowedOf h t n =
     lists (tableOf (h .kind)) (totalOf (tableOf (h .kind)) n)
@@ -53,7 +53,7 @@ allowedOf h t n =
     && not (checkOver (t .check))
     && countedOf (tableOf (h .kind) .after) (t .«data») n
 
--- whether a message is written: where 01 allows it, and the out buffer has room for its total
+-- MSG-WRITE: whether a message is written, where it is allowed and the out buffer has room for its total
 unfoldable pub writes : ℕ → Header → Tail → ℕ → Bool
 writes room h t n = allowedOf h t n && leb (totalOf (tableOf (h .kind)) n) room
 

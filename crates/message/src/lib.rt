@@ -1,4 +1,4 @@
-// Messages inside: the six types of 01's table, taken apart and written.
+// Messages inside: the six types of message (MSG-1 to MSG-6), taken apart and written.
 ghost use mathlib.Core.Path.{_≡_};
 ghost use Prim.Native.Nat.{_+_, _^_, _<_, _≤_};
 ghost use lib.ListN.{length};
@@ -12,7 +12,7 @@ use clock::Count;
 use clock::Offset;
 use clock::OffsetRead;
 
-// The 15 bytes that each message begins with.
+// The 15 bytes that each message begins with (MSG-HEAD).
 pub struct Header {
     pub kind: u8,
     pub number: u16,
@@ -22,7 +22,7 @@ pub struct Header {
     pub arrival: Count,
 }
 
-// What a message holds after its header; data is how many bytes of application data. What its type does not have is 0.
+// What a message holds after its header; data is how many bytes of application data. What its type does not have is 0 (MSG-FIELDS).
 pub struct Tail {
     pub period: u32,
     pub min: Offset,
@@ -37,13 +37,13 @@ pub enum Parsed {
     Malformed,
 }
 
-// A tail as read; Malformed where a sign and magnitude are none of 01's pairs.
+// A tail as read; Malformed by MSG-PAIR.
 enum TailRead {
     Is(Tail),
     Malformed,
 }
 
-// What stands after the header, by 01's table.
+// What stands after the header, by the type's row.
 enum After {
     Period,
     Nothing,
@@ -52,7 +52,7 @@ enum After {
     Data,
 }
 
-// A row of 01's table, with the least and the most total.
+// A row of the table of types, with the least and the most total.
 struct Listed {
     after: After,
     least: usize,
@@ -122,7 +122,7 @@ impl Tail {
     }
 }
 
-// 01's table: 1 OffsetStart, 2 OffsetAnsw1, 3 OffsetAnsw2, 4 OffsetEst, 5 OffsetEnd, 6 application.
+// The table of types: MSG-1 OffsetStart, MSG-2 OffsetAnsw1, MSG-3 OffsetAnsw2, MSG-4 OffsetEst, MSG-5 OffsetEnd, MSG-6 application.
 // A type that is not listed has no total: none is at least 1 and at most 0.
 fn table(kind: u8) -> Listed
     ensures { λ r. ⌜ r ≡ tableOf kind ⌝ }
@@ -167,7 +167,7 @@ fn table(kind: u8) -> Listed
 }
 
 impl Listed {
-    // Whether the row lists this total.
+    // MSG-LISTED: whether the row lists this total.
     fn lists(self, total: usize) -> bool
         ensures { λ r. ⌜ r ≡ lists self total ⌝ }
     {
@@ -202,7 +202,7 @@ fn read_header(s: &[u8]) -> Header
     }
 }
 
-// Both must be one of 01's pairs of sign and magnitude.
+// MSG-PAIR: both must be pairs of sign and magnitude.
 fn both(min: OffsetRead, max: OffsetRead) -> TailRead
     ensures { λ r. ⌜ r ≡ offsetsFrom min max ⌝ }
 {
@@ -239,7 +239,7 @@ fn read_after(after: After, s: &[u8]) -> TailRead
     }
 }
 
-// A nonzero later stamp in type 1.
+// MSG-LATER.
 fn later_stamp(h: Header) -> bool
     ensures { λ r. ⌜ r ≡ laterStamp h ⌝ }
 {
@@ -254,7 +254,7 @@ fn later_stamp(h: Header) -> bool
     arrival.0 != 0
 }
 
-// A check byte over 1.
+// MSG-CHECK.
 fn check_over(check: u8) -> bool
     ensures { λ r. ⌜ r ≡ checkOver check ⌝ }
 {
@@ -293,7 +293,7 @@ pub fn parse(s: &[u8]) -> Parsed
     Parsed::Malformed
 }
 
-// The application data, as a part of the message: bytes 15 on.
+// MSG-DATA: the application data, as a part of the message.
 pub fn data(s: &[u8]) -> &[u8]
     ensures { λ r. ⌜ (now r ≡ dataOf (now (s .entry))) × (r .ptr ≡ dataPlace (s .entry)) ⌝ }
 {
@@ -359,7 +359,7 @@ fn counted(after: After, said: usize, n: usize) -> bool
     }
 }
 
-// What 01's table allows, of a message with n bytes of data lent.
+// MSG-WRITE: what the table allows, of a message with n bytes of data lent.
 fn allowed(h: Header, t: Tail, n: usize) -> bool
     requires { ⌜ n < 2 ^ 63 ⌝ }
     ensures { λ r. ⌜ r ≡ allowedOf h t n ⌝ }
@@ -379,7 +379,7 @@ fn allowed(h: Header, t: Tail, n: usize) -> bool
     false
 }
 
-// Writes the message from the start of out, and answers how many bytes: none where 01 does not allow it or out has no room.
+// MSG-WRITE: writes the message from the start of out, and answers how many bytes: none where it is not allowed or out has no room.
 pub fn write(out: &mut [u8], h: Header, t: Tail, data: &[u8]) -> usize
     ensures { λ r. ⌜ (r ≡ writtenOf (length (now (out .entry))) h t (length (now («data» .entry))))
         × (now (out .exit) ≡ outOf (now (out .entry)) h t (now («data» .entry))) ⌝ }
