@@ -1,4 +1,4 @@
--- A connection is open only after all five messages of the exchange, in order, each echoing the one before.
+-- SHUT-4: a connection is open only after all five messages of the exchange, in order, each echoing the one before.
 -- Assumes nothing.
 use Prim.Native.Nat.{ℕ, suc, _+_, _≤_}
 use mathlib.Core.Path.{_≡_, refl, sym, ap, subst, _∙_}

@@ -205,7 +205,7 @@ tick-by P c now f g l =
     both P (not (eqb (tickRefusal c now) 0)) _ _ f (λ e.
     both P (expired c now) _ _ (g (none-refused (tickRefusal c now) e)) (λ _. l (none-refused (tickRefusal c now) e)))
 
--- ---- the answer is one of the numbers that 01 lists for the call
+-- ---- the answer is one of the numbers that are listed for the call
 
 abbrev In : List ℕ → Outcome → Type 0
 In ns o = o .answer among ns ≡ true
@@ -267,7 +267,7 @@ unfolding beginOutcome
 begin-number c role settings first period now room =
     both (In beginNumbers) (not (eqb (beginRefusal c role settings room) 0)) _ _ (λ _. begin-refusal-by (λ k. k among beginNumbers ≡ true) refl refl c role settings room refl refl refl) (λ _. both (In beginNumbers) (eqb role 0) _ _ (λ _. refl) (λ _. refl))
 
--- ---- demand 1: a 1xx changes no record and no lent byte
+-- ---- DEMAND-1, CALL-KEPT: a 1xx changes no record and no lent byte
 
 abbrev Fair : Connection → Outcome → Type 0
 Fair c o = callersFault (o .answer) ≡ true → Unchanged c o
@@ -341,7 +341,7 @@ begin-refusal-changes-nothing c role settings first period now room =
     both (Fair c) (not (eqb (beginRefusal c role settings room) 0)) _ _ (λ _. kept-fair (beginRefusal c role settings room) c)
     (λ _. both (Fair c) (eqb role 0) _ _ (λ _. other 0 refl) (λ _. other 0 refl))
 
--- ---- released exactly when 01 says
+-- ---- released exactly when PEER-SAYS and CALL-SAYS have it
 
 abbrev Rel : Connection → Outcome → Type 0
 Rel c o = o .released ≡ releasedBy c (o .answer)
@@ -423,7 +423,7 @@ unfolding releasedBy
 tick-released c now =
     tick-by (Rel c) c now (λ _. tick-refusal-by (Refusal c) refl refl c now refl refl) (λ _ e. simp (not-open c now e)) (λ _. refl)
 
--- close's 0 is the only answer outside the peer's faults that says released
+-- CALL-SAYS: of the answers outside the peer's faults, close's 0
 pub close-released : (c : Connection) → closeOutcome c .released ≡ eqb (closeOutcome c .answer) 0
 unfolding closeOutcome
 close-released c =

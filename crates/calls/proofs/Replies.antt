@@ -1,4 +1,4 @@
--- What a call sends is one of 01's messages and has room, so that the writer writes it whole; tick and close send nothing.
+-- What a call sends is a message that the table allows and has room, so that the writer writes it whole; tick and close send nothing.
 -- Assumes nothing.
 use Prim.Native.Nat.{ℕ, _+_, _≤_, _<_}
 use mathlib.Core.Path.{_≡_, refl, sym, subst}

@@ -1,4 +1,4 @@
--- A valid record stays valid, and a released one is all zero: so our own calls never lead to the record's 101.
+-- A valid record stays valid, and a released one is all zero (RECORD-3): so our own calls never lead to RECORD-1's 101.
 -- Assumes nothing.
 use Prim.Native.Nat.{ℕ, _+_, _≤_}
 use mathlib.Core.Path.{_≡_, refl, sym, subst, _∙_}

@@ -82,7 +82,7 @@ refused k c = keeps k 0 c
 unfoldable pub timed : ℕ → Bool
 timed phase = not (eqb phase responderWaitsFor1) && not (eqb phase opened)
 
--- WAIT-1: T_start has passed since the send that began the wait
+-- WAIT-1: T_start or more has passed since the send that began the wait, mod 2^32
 unfoldable pub expired : Connection → Count → Bool
 expired c now = timed (c .phase) && leb (c .settings .«t_start») (waitOf (now .0) (c .«wait_start» .0))
 

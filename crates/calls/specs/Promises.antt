@@ -35,7 +35,7 @@ tickRefuses = 101 ∷ 102 ∷ 105 ∷ []
 abbrev pub closeRefuses : List ℕ
 closeRefuses = 101 ∷ 102 ∷ []
 
--- PEER-ORDER
+-- PEER-ORDER: the peer's faults, as they are judged
 abbrev pub peersFaults : List ℕ
 peersFaults = 207 ∷ 201 ∷ 211 ∷ 202 ∷ 203 ∷ 208 ∷ 209 ∷ 206 ∷ 205 ∷ 204 ∷ []
 

@@ -12,31 +12,31 @@ use Rattle.connection.specs.declared.Connection.{Connection}
 
 -- ---- the phases, by their numbers
 
--- PHASE-0
+-- PHASE-0: no connection
 abbrev pub closed : ℕ
 closed = 0
 
--- PHASE-1
+-- PHASE-1: OffsetStart was sent, OffsetAnsw1 is awaited
 abbrev pub initiatorWaitsFor2 : ℕ
 initiatorWaitsFor2 = 1
 
--- PHASE-2
+-- PHASE-2: OffsetAnsw2 was sent, OffsetEst is awaited
 abbrev pub initiatorWaitsFor4 : ℕ
 initiatorWaitsFor4 = 2
 
--- PHASE-3
+-- PHASE-3: OffsetStart is awaited
 abbrev pub responderWaitsFor1 : ℕ
 responderWaitsFor1 = 3
 
--- PHASE-4
+-- PHASE-4: OffsetAnsw1 was sent, OffsetAnsw2 is awaited
 abbrev pub responderWaitsFor3 : ℕ
 responderWaitsFor3 = 4
 
--- PHASE-5
+-- PHASE-5: OffsetEst was sent, OffsetEnd is awaited
 abbrev pub responderWaitsFor5 : ℕ
 responderWaitsFor5 = 5
 
--- PHASE-6
+-- PHASE-6: data is exchanged
 abbrev pub opened : ℕ
 opened = 6
 
@@ -46,7 +46,7 @@ infix 40 _outside_to_
 unfoldable pub _outside_to_ : ℕ → ℕ → ℕ → Bool
 x outside least to most = ltb x least || ltb most x
 
--- RANGE-N, RANGE-TMAX, RANGE-E, RANGE-TSTART, RANGE-TOFF, RANGE-LIMIT, a row each
+-- CALL-104: a setting lies outside its range; RANGE-N, RANGE-TMAX, RANGE-E, RANGE-TSTART, RANGE-TOFF, RANGE-LIMIT, a line each
 unfoldable pub outOfRange : Settings → Bool
 outOfRange s =
     (s .n) outside 1 to 1000
@@ -56,7 +56,7 @@ outOfRange s =
     || (s .«t_off») outside 0 to 60000
     || (s .limit) outside 1 to 255
 
--- RECORD-1, of a record that is not closed: its settings, its phase, its error counter
+-- RECORD-1, of a record that is not closed: its settings or its phase out of range, its error counter at the limit
 unfoldable pub unsound : Connection → Bool
 unsound c = outOfRange (c .settings) || (c .phase) outside 1 to 6 || leb (c .settings .limit) (c .errors)
 

@@ -45,11 +45,11 @@ tooFar type d n = numberJudged type && ltb n d
 unfoldable pub gap : ℕ → ℕ → Bool
 gap type d = numberJudged type && leb 2 d
 
--- PEER-208: ECHO-1 does not hold of a type 2, 3, 4 or 5; SLIP-4 leaves this out of type 2
+-- PEER-208: a type 2, 3, 4 or 5 that does not echo our stamp (ECHO-1); SLIP-4 is to take a type 2 without it
 unfoldable pub wrongEcho : ℕ → ℕ → ℕ → Bool
 wrongEcho type echo stamp = leb 2 type && leb type 5 && not (eqb echo stamp)
 
--- EST-1, EST-2, EST-3, a row each
+-- EST-1: max and the peer's min cancel; EST-2: max is not below min; EST-3: min and the peer's max cancel to within T_off; a line each
 unfoldable pub accepts : ℤ → ℤ → ℤ → ℤ → ℕ → Bool
 accepts min max peer-min peer-max t-off =
     eqb (natAbs (centred (max +ℤ peer-min))) 0
@@ -62,11 +62,11 @@ checkFailed c type t =
     eqb type 4 && not (accepts (c .min .0) (c .max .0) (t .min .0) (t .max .0) (c .settings .«t_off»))
     || eqb type 5 && eqb (t .check) 0
 
--- AGE-1: the age by which a message is judged, and of which DEMAND-3 speaks (OPEN-3); the record has E and min. SLIP-1 takes the max.
+-- AGE-1: the age by which a message is judged, and of which DEMAND-3 speaks (OPEN-3); the record has E and min. SLIP-1 is to take the max.
 abbrev pub messageAge : Connection → Count → Header → ℤ
 messageAge c now h = ageOf (now .0) (h .stamp .0) (c .settings .e) (c .min .0)
 
--- PEER-206, PEER-205: for type 6 only
+-- PEER-206, PEER-205: the verdict on the age (AGE-2, AGE-3), of a type 6 alone (AGE-1)
 unfoldable pub ageNumber : Connection → Count → Header → ℕ
 ageNumber c now h =
     when eqb (h .kind) 6 answer verdictNumber (verdictOf (messageAge c now h) (c .settings .«t_max»)) else

@@ -87,7 +87,7 @@ answ2Taken c now h =
 unfoldable pub estTaken : Connection → Count → Header → Outcome
 estTaken c now h = sends (replyHeader 5 c now h) (checkTail 1) (waiting (sent (heard (clocked c now) h now)) opened noWait)
 
--- END-1
+-- END-1: OffsetEnd 1, and the responder is open
 unfoldable pub endTaken : Connection → Count → Header → Outcome
 endTaken c now h = keeps 0 0 (waiting (heard (clocked c now) h now) opened noWait)
 

@@ -1,5 +1,5 @@
--- The round trips, for every type: what is written reads back as the same fields, what is accepted writes back as the same bytes,
--- and the size written is 01's total. Assumes nothing.
+-- The round trips of DEMAND-2, for every type: what is written reads back as the same fields, what is accepted writes back as the same bytes,
+-- and the size written is the total of the type's row. Assumes nothing.
 use Prim.Native.Nat.{ℕ, _+_, _-_, _<_, _≤_, _^_}
 use mathlib.Core.Path.{_≡_, refl, ap, ap₂, _∙_, sym, subst}
 use mathlib.Core.Bool.{Bool, true, false, not}
@@ -33,7 +33,7 @@ use Rattle.message.specs.declared.After.the-variants.{Period, Nothing, O
 use Rattle.message.proofs.Rows.{and-left, and-right, fields-within, total-there, rest-there}
 use Rattle.message.proofs.Steps.{allowed-parts, parts-allowed, allowed-size, parsed-listed}
 
--- ---- the size written is 01's total
+-- ---- the size written is the total of the type's row
 pub size-is-total : (h : Header) (t : Tail) (lent : List ℕ) → allowedOf h t (length lent) ≡ true
     → length (messageBytes h t lent) ≡ totalOf (tableOf (h .kind)) (length lent)
 unfolding bytesOf

@@ -1,4 +1,4 @@
--- What holds of every row of 01's table of types, and what a listed total says of the bytes.
+-- What holds of every row of the table of types, and what a listed total says of the bytes.
 -- Assumes nothing.
 use Prim.Native.Nat.{ℕ, _+_, _-_, _<_, _≤_}
 use mathlib.Core.Path.{_≡_, refl, sym, subst, _∙_}

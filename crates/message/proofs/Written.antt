@@ -1,4 +1,4 @@
--- Each of 01's six types is written, where the out buffer has room for its total: how many bytes `write` then answers.
+-- Each of the six types MSG-1 to MSG-6 is written, where the out buffer has room for its total: how many bytes `write` then answers.
 -- Assumes nothing.
 use Prim.Native.Nat.{ℕ, _+_, _≤_}
 use mathlib.Core.Path.{_≡_, refl}

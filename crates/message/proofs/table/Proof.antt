@@ -1,4 +1,4 @@
--- `message::table` meets its contract: each arm is a row of 01's table.
+-- `message::table` meets its contract: each arm is a row of the table of types.
 -- Assumes nothing.
 use Rattle.rules.proofs.Tests.{tests}
 use Rattle.message.specs.Table.{tableOf}

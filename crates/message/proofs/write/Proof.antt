@@ -1,4 +1,4 @@
--- `message::write` meets its contract: nothing is written where the out buffer is short or 01 does not allow the message, else
+-- `message::write` meets its contract: nothing is written where the out buffer is short or the message is not allowed, else
 -- the header and what follows it. Assumes nothing.
 use native.Mathlib.Omega.{arith}
 use mathlib.Core.Path.{sym, _∙_}
