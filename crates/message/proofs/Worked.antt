@@ -1,4 +1,4 @@
--- The worked numbers of messages, NUM-15 and NUM-16, by computation.
+-- 01's worked numbers of messages, by computation.
 -- Assumes nothing.
 use Prim.Native.Nat.{ℕ}
 use mathlib.Core.Path.{_≡_, refl}
@@ -14,7 +14,7 @@ use Rattle.message.specs.Write.{offsetBytes, messageBytes}
 use Rattle.message.specs.declared.Header.{Header}
 use Rattle.message.specs.declared.Parsed.{Parsed}
 
--- NUM-16: number 7, count 1000
+-- OffsetStart number 7, count 1000
 abbrev start : Header
 start = record { kind = 1; number = 7; stamp = record { 0 = 1000 }; «last_peer_stamp» = record { 0 = 0 }; arrival = record { 0 = 0 } }
 
@@ -30,7 +30,7 @@ pub start-read : parsedOf startBytes ≡ Parsed.Whole start (periodTail 50)
 unfolding tableOf lists fieldOf laterStamp checkOver wholeOf parsedOf
 start-read = refl
 
--- NUM-15: -880
+-- -880 is 01 00 00 03 70
 pub minus-880 : offsetBytes (record { 0 = negsuc 879 }) ≡ 0x01 ∷ 0x00 ∷ 0x00 ∷ 0x03 ∷ 0x70 ∷ []
 unfolding signMagnitudeOf bytesOf
 minus-880 = refl
