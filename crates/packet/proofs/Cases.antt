@@ -40,21 +40,21 @@ pub au1-cases :
     ∷ writeAnswer 100 1 1 (0 ∷ 0 ∷ 0 ∷ 7 ∷ 0 ∷ 0 ∷ 0 ∷ 9 ∷ 0x03 ∷ [])
     ∷ []
     ≡ 0 ∷ 311 ∷ 311 ∷ 311 ∷ []
-unfolding writeAnswer notClassD inClassD classesOf leastOf opens openingFault fieldOf
+unfolding writeAnswer notClassD inClassD classesOf opens openingFault leastOf fieldOf
 au1-cases = refl
 
 -- AU2 numbered 0 with 4 bytes; with 3 bytes; numbered 1
 pub au2-cases :
     writeAnswer 100 0 2 (0 ∷ 0 ∷ 0 ∷ 9 ∷ []) ∷ writeAnswer 100 0 2 (0 ∷ 0 ∷ 9 ∷ []) ∷ writeAnswer 100 1 2 (0 ∷ 0 ∷ 0 ∷ 9 ∷ []) ∷ []
     ≡ 0 ∷ 311 ∷ 311 ∷ []
-unfolding writeAnswer notClassD inClassD classesOf leastOf opens openingFault fieldOf
+unfolding writeAnswer notClassD inClassD classesOf opens openingFault leastOf fieldOf
 au2-cases = refl
 
 -- types 3, 4, 0, 5, 251 and 255, with no user data
 pub type-cases :
     writeAnswer 10 9 3 [] ∷ writeAnswer 10 9 4 [] ∷ writeAnswer 10 9 0 [] ∷ writeAnswer 10 9 5 [] ∷ writeAnswer 10 0 251 [] ∷ writeAnswer 10 0 255 [] ∷ []
     ≡ 0 ∷ 0 ∷ 311 ∷ 311 ∷ 311 ∷ 311 ∷ []
-unfolding writeAnswer notClassD inClassD classesOf leastOf opens openingFault fieldOf
+unfolding writeAnswer notClassD inClassD classesOf opens openingFault leastOf fieldOf
 type-cases = refl
 
 -- 311 before 312, and 312 before 313

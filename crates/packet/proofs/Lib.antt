@@ -1,6 +1,5 @@
 -- The laws and theorems of packet; the proofs of its functions stand beside them.
 pub mod Register
-pub mod Column
 pub mod TypeRows
 pub mod Bytes
 pub mod Writing

@@ -1,32 +1,13 @@
--- The packet types: one table, a row for each type, in 01's order, with its service classes, its links and what its user data begins with.
+-- The packet types: one table, a row for each type, in 01's order, with its service classes, its links and its payload rules.
 -- Assumes nothing.
-use Prim.Native.Nat.{ℕ, _+_, _/_, _%_}
+use Prim.Native.Nat.{ℕ}
 use mathlib.Core.Bool.{Bool, cond, not, _||_, _&&_}
-use mathlib.Core.List.{List, [], _∷_, map}
+use mathlib.Core.List.{List, [], _∷_}
 use lib.Dec.{eqb, ltb}
-use lib.ListN.{length, getD, drop}
+use lib.ListN.{length, getD, take}
 use Rattle.rules.specs.Rows.{when_answer_else_}
-use Rattle.field.specs.Row.{fieldsOf, widthOf}
-
-pub record Row : Type 0 where
-  pub kind : ℕ
-  pub classes : ℕ
-  pub links : ℕ
-  pub begins : List ℕ
-
--- the service classes of a type: 1 for A, 2 for D, and their sum for both
-abbrev pub serviceA : ℕ
-serviceA = 1
-
-abbrev pub serviceD : ℕ
-serviceD = 2
-
--- the links on which a type may go: 1 for the normal link, 2 for the redundant one, and their sum for both
-abbrev pub normalLink : ℕ
-normalLink = 1
-
-abbrev pub redundantLink : ℕ
-redundantLink = 2
+use Rattle.field.specs.Field.{fieldOf}
+use Rattle.field.specs.Row.{widthOf}
 
 abbrev pub au1 : ℕ
 au1 = 1
@@ -42,62 +23,97 @@ au1Begins = 4 ∷ 4 ∷ 1 ∷ []
 abbrev pub au2Begins : List ℕ
 au2Begins = 4 ∷ []
 
--- "1 AU1, 2 AU2, 3 data, 4 release (A and D); 251, 253, 254, 255 (A only)." The links are those of table 10 of 004: types 1 to 4 go on both
--- (class D sends everything on both; class A on the active one, which may be either); 251 turns to the redundant link and goes there, 253 turns to
--- the normal link and goes there; 254 goes on the idle link and 255 on the active one, each of which may be either.
-abbrev pub rows : List Row
-rows =
-    record { kind = au1; classes = serviceA + serviceD; links = normalLink + redundantLink; begins = au1Begins }
-    ∷ record { kind = au2; classes = serviceA + serviceD; links = normalLink + redundantLink; begins = au2Begins }
-    ∷ record { kind = 3; classes = serviceA + serviceD; links = normalLink + redundantLink; begins = [] }
-    ∷ record { kind = 4; classes = serviceA + serviceD; links = normalLink + redundantLink; begins = [] }
-    ∷ record { kind = 251; classes = serviceA; links = redundantLink; begins = [] }
-    ∷ record { kind = 253; classes = serviceA; links = normalLink; begins = [] }
-    ∷ record { kind = 254; classes = serviceA; links = normalLink + redundantLink; begins = [] }
-    ∷ record { kind = 255; classes = serviceA; links = normalLink + redundantLink; begins = [] }
-    ∷ []
-
-abbrev pub kinds : List ℕ
-kinds = map (λ (r : Row). r .kind) rows
-
--- what stands beside a type in a column of the table, 0 for a type that the table does not have
-abbrev pub beside : ℕ → List ℕ → List ℕ → ℕ
-beside kind [] column = 0
-beside kind (k ∷ ks) column = when (eqb k kind) answer (getD column 0 0) else beside kind ks (drop 1 column)
-
-unfoldable pub classesOf : ℕ → ℕ
-classesOf kind = beside kind kinds (map (λ (r : Row). r .classes) rows)
-
-unfoldable pub linksOf : ℕ → ℕ
-linksOf kind = beside kind kinds (map (λ (r : Row). r .links) rows)
-
--- the least user data: all that it begins with, 9 bytes of AU1 and 4 of AU2
-unfoldable pub leastOf : ℕ → ℕ
-leastOf kind = beside kind kinds (map (λ (r : Row). widthOf (r .begins)) rows)
-
--- one of 1 and 2 is in a sum of them
-abbrev pub holds : ℕ → ℕ → Bool
-holds total one = eqb ((total / one) % 2) 1
-
-unfoldable pub inClassD : ℕ → Bool
-inClassD kind = holds (classesOf kind) serviceD
-
-unfoldable pub goesOn : Bool → ℕ → Bool
-goesOn normal kind = holds (linksOf kind) (cond normal normalLink redundantLink)
-
--- AU1 or AU2
-unfoldable pub opens : ℕ → Bool
-opens kind = eqb kind au1 || eqb kind au2
-
 -- "class D is 0x03"
 abbrev pub classD : ℕ
 classD = 0x03
 
--- the class that the user data of an AU1 asks for, the third of the fields that it begins with
+-- "1 AU1, 2 AU2, 3 data, 4 release (A and D); 251, 253, 254, 255 (A only)." The links are those of table 10 of 004: types 1 to 4 go on both
+-- (class D sends everything on both; class A on the active one, which may be either); 251 turns to the redundant link and goes there, 253 turns to
+-- the normal link and goes there; 254 goes on the idle link and 255 on the active one, each of which may be either. By the same table 254 and 255
+-- have no user data. The columns: type; in service class A; in service class D; on the normal link; on the redundant link; least user data; may have
+-- user data; is numbered 0; the place of the class in the user data, 0 where it names none; the class that class D asks for there. Of what a type is
+-- or may, 1 says that it does and 0 that it does not.
+abbrev pub rows : List (List ℕ)
+rows =
+    (au1 ∷ 1 ∷ 1 ∷ 1 ∷ 1 ∷ widthOf au1Begins ∷ 1 ∷ 1 ∷ widthOf (take 2 au1Begins) ∷ classD ∷ [])
+    ∷ (au2 ∷ 1 ∷ 1 ∷ 1 ∷ 1 ∷ widthOf au2Begins ∷ 1 ∷ 1 ∷ 0 ∷ 0 ∷ [])
+    ∷ (3 ∷ 1 ∷ 1 ∷ 1 ∷ 1 ∷ 0 ∷ 1 ∷ 0 ∷ 0 ∷ 0 ∷ [])
+    ∷ (4 ∷ 1 ∷ 1 ∷ 1 ∷ 1 ∷ 0 ∷ 1 ∷ 0 ∷ 0 ∷ 0 ∷ [])
+    ∷ (251 ∷ 1 ∷ 0 ∷ 0 ∷ 1 ∷ 0 ∷ 1 ∷ 0 ∷ 0 ∷ 0 ∷ [])
+    ∷ (253 ∷ 1 ∷ 0 ∷ 1 ∷ 0 ∷ 0 ∷ 1 ∷ 0 ∷ 0 ∷ 0 ∷ [])
+    ∷ (254 ∷ 1 ∷ 0 ∷ 1 ∷ 1 ∷ 0 ∷ 0 ∷ 0 ∷ 0 ∷ 0 ∷ [])
+    ∷ (255 ∷ 1 ∷ 0 ∷ 1 ∷ 1 ∷ 0 ∷ 0 ∷ 0 ∷ 0 ∷ 0 ∷ [])
+    ∷ []
+
+-- the cells of a row; its service classes are A and D, its links the normal one and the redundant one
+abbrev pub kindOf : List ℕ → ℕ
+kindOf row = getD row 0 0
+
+unfoldable pub classesOf : List ℕ → List ℕ
+classesOf row = getD row 1 0 ∷ getD row 2 0 ∷ []
+
+unfoldable pub linksOf : List ℕ → List ℕ
+linksOf row = getD row 3 0 ∷ getD row 4 0 ∷ []
+
+unfoldable pub leastOf : List ℕ → ℕ
+leastOf row = getD row 5 0
+
+abbrev pub userDataOf : List ℕ → ℕ
+userDataOf row = getD row 6 0
+
+abbrev pub numberedZeroOf : List ℕ → ℕ
+numberedZeroOf row = getD row 7 0
+
+abbrev pub classAtOf : List ℕ → ℕ
+classAtOf row = getD row 8 0
+
 abbrev pub classOf : List ℕ → ℕ
-classOf userData = getD (fieldsOf au1Begins userData 0) 2 0
+classOf row = getD row 9 0
+
+-- the row of a type; of a type that the table does not have, a row of zeros
+abbrev pub noRow : List ℕ
+noRow = 0 ∷ 0 ∷ 0 ∷ 0 ∷ 0 ∷ 0 ∷ 0 ∷ 0 ∷ 0 ∷ 0 ∷ []
+
+abbrev pub rowIn : ℕ → List (List ℕ) → List ℕ
+rowIn kind [] = noRow
+rowIn kind (row ∷ rest) = when (eqb (kindOf row) kind) answer row else rowIn kind rest
+
+abbrev pub typeRow : ℕ → List ℕ
+typeRow kind = rowIn kind rows
+
+-- ---- what a row says
+abbrev pub hasClassD : List ℕ → Bool
+hasClassD row = eqb (getD (classesOf row) 1 0) 1
+
+abbrev pub hasLink : Bool → List ℕ → Bool
+hasLink normal row = eqb (getD (linksOf row) (cond normal 0 1) 0) 1
+
+-- user data where the type has none
+abbrev pub unwantedData : List ℕ → List ℕ → Bool
+unwantedData row userData = eqb (userDataOf row) 0 && ltb 0 (length userData)
+
+abbrev pub numberedZero : List ℕ → Bool
+numberedZero row = eqb (numberedZeroOf row) 1
+
+-- another class than the one that class D asks for
+abbrev pub anotherClass : List ℕ → List ℕ → Bool
+anotherClass row userData = not (eqb (classAtOf row) 0) && not (eqb (fieldOf userData (classAtOf row) 1) (classOf row))
+
+-- "not numbered 0, too short or of another class"
+abbrev pub faultIn : List ℕ → ℕ → List ℕ → Bool
+faultIn row number userData = not (eqb number 0) || ltb (length userData) (leastOf row) || anotherClass row userData
+
+-- ---- what the table says of a type
+unfoldable pub inClassD : ℕ → Bool
+inClassD kind = hasClassD (typeRow kind)
+
+unfoldable pub goesOn : Bool → ℕ → Bool
+goesOn normal kind = hasLink normal (typeRow kind)
+
+-- AU1 or AU2, which are the types numbered 0
+unfoldable pub opens : ℕ → Bool
+opens kind = numberedZero (typeRow kind)
 
 -- "AU1 or AU2 not numbered 0, too short or of another class"
 unfoldable pub openingFault : ℕ → ℕ → List ℕ → Bool
-openingFault kind number userData =
-    not (eqb number 0) || ltb (length userData) (leastOf kind) || (eqb kind au1 && not (eqb (classOf userData) classD))
+openingFault kind number userData = faultIn (typeRow kind) number userData

@@ -7,7 +7,7 @@ ghost use lib.Seq.{sets};
 ghost use Rattle.field.specs.Row.{rowOf};
 ghost use Rattle.packet.specs.Sizes.{headerSize, mostData, checkedBytes, checkedFields};
 ghost use Rattle.packet.specs.Check.{bitIn, bitsIn};
-ghost use Rattle.packet.specs.Types.{kinds, beside, holds, leastOf, inClassD, goesOn, opens, openingFault};
+ghost use Rattle.packet.specs.Types.{typeRow, leastOf, hasClassD, hasLink, unwantedData, numberedZero, inClassD, goesOn, opens, openingFault};
 ghost use Rattle.packet.specs.Packet.{widths, headerOf, checkAt, flagOf, packetBytes};
 ghost use Rattle.packet.specs.Writing.{notClassD, writeAnswer, writtenOf, bytesWritten};
 
@@ -85,94 +85,132 @@ pub fn check(s: &[u8], at: usize) -> u16
     q
 }
 
-// In the table below a service class is 1 for A and 2 for D, a link 1 for the normal one and 2 for the redundant one; both are their sum.
-const SERVICE_D: u8 = 2;
+// The columns of the table of packet types that are looked up. Of what a type is or may, 1 says that it does and 0 that it does not; the class stands
+// at a place of the user data, which is 0 where the type names none.
+const KIND: usize = 0;
 
-const NORMAL_LINK: u8 = 1;
+const IN_CLASS_D: usize = 2;
 
-const REDUNDANT_LINK: u8 = 2;
+const ON_NORMAL: usize = 3;
 
-// The table of the packet types, a column to an array: the types, their service classes, their links, their least user data.
-const KINDS: [u8; 8] = [1, 2, 3, 4, 251, 253, 254, 255];
+const ON_REDUNDANT: usize = 4;
 
-const CLASSES: [u8; 8] = [3, 3, 3, 3, 1, 1, 1, 1];
+const LEAST: usize = 5;
 
-const LINKS: [u8; 8] = [3, 3, 3, 3, 2, 1, 3, 3];
+const USER_DATA: usize = 6;
 
-const LEAST: [u8; 8] = [9, 4, 0, 0, 0, 0, 0, 0];
+const NUMBERED_ZERO: usize = 7;
 
-// What stands beside a type in a column, 0 for a type that the table does not have.
-fn entry(column: [u8; 8], kind: u8) -> u8
-    ensures { λ r. ⌜ r ≡ beside kind kinds column ⌝ }
+const CLASS_AT: usize = 8;
+
+const CLASS: usize = 9;
+
+// The table of the packet types, a row to each.
+const TYPES: [[u8; 10]; 8] = [
+    // type; class A, class D; normal link, redundant link; least user data, may have user data, numbered 0, place of the class, class
+    [AU1, 1, 1, 1, 1, 9, 1, 1, 8, CLASS_D],
+    [AU2, 1, 1, 1, 1, 4, 1, 1, 0, 0],
+    [3, 1, 1, 1, 1, 0, 1, 0, 0, 0],
+    [4, 1, 1, 1, 1, 0, 1, 0, 0, 0],
+    [251, 1, 0, 0, 1, 0, 1, 0, 0, 0],
+    [253, 1, 0, 1, 0, 0, 1, 0, 0, 0],
+    [254, 1, 0, 1, 1, 0, 0, 0, 0, 0],
+    [255, 1, 0, 1, 1, 0, 0, 0, 0, 0],
+];
+
+// The row of a type, zeros for a type that the table does not have. Every row is looked at, the last of them first, with no way out before the end: the
+// compiler then takes the cells as constants, and builds the table for no packet.
+fn type_row(kind: u8) -> [u8; 10]
+    ensures { λ r. ⌜ r ≡ typeRow kind ⌝ }
 {
-    let types = KINDS;
-    let mut i: usize = 0;
-    while i < 8 {
-        if types[i] == kind {
-            return column[i];
+    let types = TYPES;
+    let mut found: [u8; 10] = [0; 10];
+    let mut i: usize = 8;
+    while 0 < i {
+        i -= 1;
+        let row = types[i];
+        if row[KIND] == kind {
+            found = row;
         }
-        i += 1;
     }
-    0
+    found
 }
 
-// Whether one of 1 and 2 is in a sum of them.
-fn holds(total: u8, one: u8) -> bool
-    requires { ⌜ 0 < one ⌝ }
-    ensures { λ r. ⌜ r ≡ holds total one ⌝ }
+fn has_class_d(row: [u8; 10]) -> bool
+    ensures { λ r. ⌜ r ≡ hasClassD row ⌝ }
 {
-    total / one % 2 == 1
+    row[IN_CLASS_D] == 1
+}
+
+fn has_link(normal: bool, row: [u8; 10]) -> bool
+    ensures { λ r. ⌜ r ≡ hasLink normal row ⌝ }
+{
+    if normal {
+        return row[ON_NORMAL] == 1;
+    }
+    row[ON_REDUNDANT] == 1
+}
+
+// User data where the type has none.
+fn unwanted_data(row: [u8; 10], data: &[u8]) -> bool
+    ensures { λ r. ⌜ r ≡ unwantedData row (now («data» .entry)) ⌝ }
+{
+    if row[USER_DATA] == 0 {
+        return 0 < data.len();
+    }
+    false
+}
+
+fn numbered_zero(row: [u8; 10]) -> bool
+    ensures { λ r. ⌜ r ≡ numberedZero row ⌝ }
+{
+    row[NUMBERED_ZERO] == 1
 }
 
 // Whether class D has a type.
 pub fn in_class_d(kind: u8) -> bool
     ensures { λ r. ⌜ r ≡ inClassD kind ⌝ }
 {
-    holds(entry(CLASSES, kind), SERVICE_D)
+    has_class_d(type_row(kind))
 }
 
 // The least user data of a type.
 pub fn least(kind: u8) -> u8
-    ensures { λ r. ⌜ r ≡ leastOf kind ⌝ }
+    ensures { λ r. ⌜ r ≡ leastOf (typeRow kind) ⌝ }
 {
-    entry(LEAST, kind)
+    let row = type_row(kind);
+    row[LEAST]
 }
 
 // Whether a type may go on a link.
 pub fn goes_on(normal: bool, kind: u8) -> bool
     ensures { λ r. ⌜ r ≡ goesOn normal kind ⌝ }
 {
-    let links = entry(LINKS, kind);
-    if normal {
-        return holds(links, NORMAL_LINK);
-    }
-    holds(links, REDUNDANT_LINK)
+    has_link(normal, type_row(kind))
 }
 
 // AU1 or AU2, the packets that open.
 pub fn opens(kind: u8) -> bool
     ensures { λ r. ⌜ r ≡ opens kind ⌝ }
 {
-    if kind == AU1 {
-        return true;
-    }
-    kind == AU2
+    numbered_zero(type_row(kind))
 }
 
-// AU1 or AU2 not numbered 0, too short or of another class, which AU1 alone has, after the ids of caller and called.
+// AU1 or AU2 not numbered 0, too short or of another class, which AU1 alone names, after the ids of caller and called.
 pub fn opening_fault(kind: u8, number: u16, data: &[u8]) -> bool
     ensures { λ r. ⌜ r ≡ openingFault kind number (now («data» .entry)) ⌝ }
 {
+    let row = type_row(kind);
     if number != 0 {
         return true;
     }
-    if data.len() < least(kind) as usize {
+    if data.len() < row[LEAST] as usize {
         return true;
     }
-    if kind == AU1 {
-        return field::read8(data, 8) != CLASS_D;
+    if row[CLASS_AT] == 0 {
+        return false;
     }
-    false
+    field::read8(data, row[CLASS_AT] as usize) != row[CLASS]
 }
 
 // The header of the packet at a place.
@@ -247,18 +285,22 @@ fn put(
     field::copy(out, HEADER_SIZE, data);
 }
 
-// A type not in class D, or AU1 or AU2 not numbered 0, too short or of another class. The table is asked for the link too; it has every type in class D
-// on both.
+// A type not in class D, or AU1 or AU2 not numbered 0, too short or of another class. The table is asked for the link and for user data too; it has every
+// type in class D on both links and with user data.
 fn not_class_d(normal: bool, number: u16, kind: u8, data: &[u8]) -> bool
     ensures { λ r. ⌜ r ≡ notClassD number kind (now («data» .entry)) ⌝ }
 {
-    if !in_class_d(kind) {
+    let row = type_row(kind);
+    if !has_class_d(row) {
         return true;
     }
-    if !goes_on(normal, kind) {
+    if !has_link(normal, row) {
         return true;
     }
-    if opens(kind) {
+    if unwanted_data(row, data) {
+        return true;
+    }
+    if numbered_zero(row) {
         return opening_fault(kind, number, data);
     }
     false

@@ -1,40 +1,20 @@
--- `packet::goes_on` meets its contract: the column of the links is the table's.
+-- `packet::goes_on` meets its contract: what the row of the type says.
 -- Assumes nothing.
-use mathlib.Core.Path.{_≡_, ap₂, sym, _∙_}
-use mathlib.Core.Bool.{Bool, true, false, cond}
-use Prim.Native.Nat.{ℕ}
+use mathlib.Core.Path.{ap, _∙_}
 use borrow.Author.Needs.{needs}
-use Rattle.packet.specs.Types.{normalLink, redundantLink, linksOf, holds, goesOn}
+use Rattle.packet.specs.Types.{hasLink, goesOn}
 use Rattle.packet.proofs.goes_on.Statement.{statement}
 use Rattle.packet.proofs.goes_on.Tie as tie
 
-on : (normal is : Bool) (total kind : ℕ) → normal ≡ is → total ≡ linksOf kind
-    → holds total (cond is normalLink redundantLink) ≡ goesOn normal kind
-unfolding goesOn
-on normal is total kind e h =
-    ap₂ (λ (x : ℕ) (b : Bool). holds x (cond b normalLink redundantLink)) h (sym e)
+type-row-requires : tie.Need-type-row-requires
+type-row-requires c κs = search needs
 
-entry-requires : tie.Need-entry-requires
-entry-requires c κs = search needs
-
-holds-requires : tie.Need-holds-requires
-holds-requires c κs = search needs
+has-link-requires : tie.Need-has-link-requires
+has-link-requires c κs = search needs
 
 returns : tie.Need-returns
-unfolding linksOf
-returns c =
-    let a = c .before .before .before .args in
-    c .holds .ensures ∙ on (a .normal) true (c .before .before .entry .result) (a .kind) (c .before .if1 .taken) (c .before .before .entry .ensures)
-
-holds-requires-2 : tie.Need-holds-requires-2
-holds-requires-2 c κs = search needs
-
-returns-2 : tie.Need-returns-2
-unfolding linksOf
-returns-2 c =
-    let a = c .before .before .before .args in
-    c .holds2 .ensures ∙ on (a .normal) false (c .before .before .entry .result) (a .kind) (c .before .if1 .left) (c .before .before .entry .ensures)
+unfolding goesOn
+returns c = c .has-link .ensures ∙ ap (hasLink (c .before .before .args .normal)) (c .before .type-row .ensures)
 
 pub goes-on-spec : {M : Type 1} → statement M
-goes-on-spec =
-    tie.close (tie.spec entry-requires holds-requires returns holds-requires-2 returns-2)
+goes-on-spec = tie.close (tie.spec type-row-requires has-link-requires returns)

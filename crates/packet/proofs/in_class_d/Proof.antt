@@ -1,21 +1,20 @@
--- `packet::in_class_d` meets its contract: the column of the service classes is the table's.
+-- `packet::in_class_d` meets its contract: what the row of the type says.
 -- Assumes nothing.
 use mathlib.Core.Path.{ap, _∙_}
-use Prim.Native.Nat.{ℕ}
 use borrow.Author.Needs.{needs}
-use Rattle.packet.specs.Types.{serviceD, classesOf, holds, inClassD}
+use Rattle.packet.specs.Types.{hasClassD, inClassD}
 use Rattle.packet.proofs.in_class_d.Statement.{statement}
 use Rattle.packet.proofs.in_class_d.Tie as tie
 
-entry-requires : tie.Need-entry-requires
-entry-requires c κs = search needs
+type-row-requires : tie.Need-type-row-requires
+type-row-requires c κs = search needs
 
-holds-requires : tie.Need-holds-requires
-holds-requires c κs = search needs
+has-class-d-requires : tie.Need-has-class-d-requires
+has-class-d-requires c κs = search needs
 
 returns : tie.Need-returns
-unfolding inClassD classesOf
-returns c = c .holds .ensures ∙ ap (λ (total : ℕ). holds total serviceD) (c .before .entry .ensures)
+unfolding inClassD
+returns c = c .has-class-d .ensures ∙ ap hasClassD (c .before .type-row .ensures)
 
 pub in-class-d-spec : {M : Type 1} → statement M
-in-class-d-spec = tie.close (tie.spec entry-requires holds-requires returns)
+in-class-d-spec = tie.close (tie.spec type-row-requires has-class-d-requires returns)

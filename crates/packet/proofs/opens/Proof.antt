@@ -1,17 +1,20 @@
--- `packet::opens` meets its contract: each return is a part of the rule.
+-- `packet::opens` meets its contract: what the row of the type says.
 -- Assumes nothing.
-use Rattle.rules.proofs.Tests.{tests}
-use Rattle.packet.specs.Types.{opens}
+use mathlib.Core.Path.{ap, _∙_}
+use borrow.Author.Needs.{needs}
+use Rattle.packet.specs.Types.{numberedZero, opens}
 use Rattle.packet.proofs.opens.Statement.{statement}
 use Rattle.packet.proofs.opens.Tie as tie
 
+type-row-requires : tie.Need-type-row-requires
+type-row-requires c κs = search needs
+
+numbered-zero-requires : tie.Need-numbered-zero-requires
+numbered-zero-requires c κs = search needs
+
 returns : tie.Need-returns
 unfolding opens
-returns c = search tests
-
-returns-2 : tie.Need-returns-2
-unfolding opens
-returns-2 c = search tests
+returns c = c .numbered-zero .ensures ∙ ap numberedZero (c .before .type-row .ensures)
 
 pub opens-spec : {M : Type 1} → statement M
-opens-spec = tie.close (tie.spec returns returns-2)
+opens-spec = tie.close (tie.spec type-row-requires numbered-zero-requires returns)
