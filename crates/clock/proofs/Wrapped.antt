@@ -182,6 +182,19 @@ unfolding wrapped modulo
 wrapped-from (pos n) h e = omega arith
 wrapped-from (negsuc n) h e = absurd (pos-ne-negsuc n n (sym e))
 
+-- the number of 0 .. 2^32-1 that differs from another by a multiple of 2^32
+wrapped-is : (z : ℤ) (n : ℕ) → pos n ≈ z → n < 2 ^ 32 → wrapped z ≡ n
+wrapped-is z n e h = let f : pos (wrapped z) ≈ pos n = ≈-trans (wrapped-≈ z) (≈-sym e) in omega (arith, wrapped-lt z, f .apart)
+
+-- the bits of a negative number's negation are its size, up to 2^31
+pub wrapped-negation : (z : ℤ) → mag z < 2 ^ 31 → z ≡ negsuc (mag z) → wrapped (centred (negℤ z)) ≡ natAbs z
+wrapped-negation (pos n) h e = absurd (pos-ne-negsuc n n e)
+wrapped-negation (negsuc n) h e = wrapped-is (centred (pos (suc n))) (suc n) (≈-sym (centred-≈ (pos (suc n)))) (omega arith)
+
+-- the negation of a magnitude, down to -2^31
+pub centred-negation : (m : ℕ) → m ≤ 2 ^ 31 → centred (negℤ (centred (pos m))) ≡ negℤ (pos m)
+centred-negation m h = centred-is (negℤ (centred (pos m))) (negℤ (pos m)) (≈-neg (≈-sym (centred-≈ (pos m)))) (neg-fits m h .sfits)
+
 -- the number of the other half: x - 2^32
 pub centred-upper : (x m : ℕ) → x + m ≡ 2 ^ 32 → m ≤ 2 ^ 31 → negℤ (pos m) ≡ centred (pos x)
 centred-upper x m e h =

@@ -33,6 +33,30 @@ pub enum OffsetRead {
     Malformed,
 }
 
+// A number taken in -2^31 .. 2^31-1, of none of the three kinds.
+struct Centred(i32);
+
+impl Centred {
+    // -m, down to -2^31.
+    fn minus(m: u32) -> Centred
+        requires { ⌜ m ≤ 2 ^ 31 ⌝ }
+        ensures { λ r. ⌜ r .0 ≡ negℤ (pos m) ⌝ }
+    {
+        Centred((-(m as i64)) as i32)
+    }
+
+    // The number that is x mod 2^32.
+    fn of(x: u32) -> Centred
+        ensures { λ r. ⌜ r .0 ≡ centred (pos x) ⌝ }
+    {
+        if x < 0x8000_0000 {
+            Centred(x as i32)
+        } else {
+            Centred::minus(0xffff_ffff - x + 1)
+        }
+    }
+}
+
 impl Count {
     // Whether the clock goes back from the last accepted now to this one: mod 2^32, their difference is in the upper half.
     pub fn goes_back(self, last: Count) -> bool
@@ -50,23 +74,12 @@ impl Count {
 }
 
 impl Offset {
-    // -m, down to -2^31.
-    fn minus_of(m: u32) -> Offset
-        requires { ⌜ m ≤ 2 ^ 31 ⌝ }
-        ensures { λ r. ⌜ r .0 ≡ negℤ (pos m) ⌝ }
-    {
-        Offset((-(m as i64)) as i32)
-    }
-
-    // The number that is x mod 2^32.
+    // The offset that is x mod 2^32.
     fn of_bits(x: u32) -> Offset
         ensures { λ r. ⌜ r .0 ≡ centred (pos x) ⌝ }
     {
-        if x < 0x8000_0000 {
-            Offset(x as i32)
-        } else {
-            Offset::minus_of(0xffff_ffff - x + 1)
-        }
+        let z = Centred::of(x);
+        Offset(z.0)
     }
 
     // The number mod 2^32.
@@ -126,26 +139,23 @@ impl Offset {
         Offset::of_bits(std::num::wrapping_sub_u32(self.bits(), other.bits()))
     }
 
-    // As a message carries it.
+    // As a message carries it: of a negative offset, the magnitude is its negation, up to 2^31.
     pub fn sign_magnitude(self) -> SignMagnitude
         ensures { λ r. ⌜ r ≡ signMagnitudeOf (self .0) ⌝ }
     {
-        let z = self.0;
-        let m = self.size();
-        if z < 0 {
-            SignMagnitude {
+        if self.negative() {
+            return SignMagnitude {
                 sign: 1,
-                magnitude: m,
-            }
-        } else {
-            SignMagnitude {
-                sign: 0,
-                magnitude: m,
-            }
+                magnitude: self.negated().bits(),
+            };
+        }
+        SignMagnitude {
+            sign: 0,
+            magnitude: self.bits(),
         }
     }
 
-    // From what a message carries.
+    // From what a message carries: with sign 1, the magnitude negated.
     pub fn read(sign: u8, magnitude: u32) -> OffsetRead
         ensures { λ r. ⌜ r ≡ offsetRead sign magnitude ⌝ }
     {
@@ -158,7 +168,7 @@ impl Offset {
         if sign == 1 {
             if 0 < magnitude {
                 if magnitude <= 0x8000_0000 {
-                    return OffsetRead::Is(Offset::minus_of(magnitude));
+                    return OffsetRead::Is(Offset::of_bits(magnitude).negated());
                 }
             }
         }
@@ -173,8 +183,8 @@ impl Age {
     {
         let apart = std::num::wrapping_sub_u32(now.0, stamp.0);
         let later = std::num::wrapping_add_u32(apart, e);
-        let x = Offset::of_bits(std::num::wrapping_sub_u32(later, min.bits()));
-        Age(x.0)
+        let z = Centred::of(std::num::wrapping_sub_u32(later, min.bits()));
+        Age(z.0)
     }
 
     // What T_max makes of it.

@@ -18,14 +18,14 @@ bits-requires c κs = search needs
 wrapping-sub-u32-requires-2 : tie.Need-wrapping-sub-u32-requires-2
 wrapping-sub-u32-requires-2 c κs = search needs
 
-of-bits-requires : tie.Need-of-bits-requires
-of-bits-requires c κs = search needs
+of-requires : tie.Need-of-requires
+of-requires c κs = search needs
 
 returns : tie.Need-returns
 unfolding ageOf
 returns c =
     reads
-    (c .before .of-bits .ensures
+    (c .before .of .ensures
     ∙ centred-same
     (wrap-sub (c .before .before .wrapping-sub-u322 .ensures)
     (wrap-add (c .before .before .before .before .wrapping-add-u32 .ensures)
@@ -42,5 +42,5 @@ of-spec =
     wrapping-add-u32-requires
     bits-requires
     wrapping-sub-u32-requires-2
-    of-bits-requires
+    of-requires
     returns)

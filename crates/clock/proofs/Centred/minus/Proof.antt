@@ -1,4 +1,4 @@
--- `clock::Offset::minus_of` meets its contract: in 64 bits, which have room for 2^31. Assumes nothing.
+-- `clock::Centred::minus` meets its contract: in 64 bits, which have room for 2^31. Assumes nothing.
 use borrow.Author.Needs.{needs}
 use mathlib.Core.Path.{refl}
 use native.Mathlib.Omega.{arith}
@@ -8,8 +8,8 @@ use mir.Facts.{sfits-widen}
 use mir.Syntax.{w64}
 use mir.Val.{toZ}
 use Rattle.clock.proofs.Wrapped.{reads, minus-of, fits-as, neg-fits}
-use Rattle.clock.proofs.Offset.minus_of.Statement.{statement}
-use Rattle.clock.proofs.Offset.minus_of.Tie as tie
+use Rattle.clock.proofs.Centred.minus.Statement.{statement}
+use Rattle.clock.proofs.Centred.minus.Tie as tie
 
 -- `-(m as i64)` is -m
 negation : (c : tie.Start) → pos 0 -ℤ toZ w64 (c .args .m) ≡ negℤ (pos (c .args .m))
@@ -30,5 +30,5 @@ returns : tie.Need-returns
 returns c =
     reads (reads (negation c) (sfits-widen tt (neg-fits (c .args .m) (c .pre)))) (neg-fits (c .args .m) (c .pre))
 
-pub minus-of-spec : {M : Type 1} → statement M
-minus-of-spec = tie.close (tie.spec cast-t2 sub-t3 cast-t4 returns)
+pub minus-spec : {M : Type 1} → statement M
+minus-spec = tie.close (tie.spec cast-t2 sub-t3 cast-t4 returns)
