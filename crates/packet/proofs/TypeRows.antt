@@ -11,7 +11,7 @@ use lib.ListN.{length, getD, drop}
 use lib.Seq.{drop-cons}
 use Rattle.rules.specs.Rows.{when_answer_else_}
 use Rattle.field.specs.Field.{fieldOf}
-use Rattle.packet.specs.Types.{au1, au2, rows, kindOf, classesOf, linksOf, leastOf, userDataOf, classAtOf, noRow, rowIn, typeRow}
+use Rattle.packet.specs.Types.{au1, au2, rows, kindOf, classesOf, linksOf, leastOf, hasUserDataOf, classAtOf, noRow, rowIn, typeRow}
 use Rattle.packet.specs.Types.{hasClassD, hasLink, unwantedData, numberedZero, opens, openingFault}
 
 -- ---- a look through a table from its last row to its first
@@ -69,7 +69,7 @@ module _ (rule : List ℕ → Bool) where
 
 -- each type in class D goes on both links and may have user data
 abbrev whole : List ℕ → Bool
-whole row = not (hasClassD row) || (hasLink true row && hasLink false row && not (eqb (userDataOf row) 0))
+whole row = not (hasClassD row) || (hasLink true row && hasLink false row && not (eqb (hasUserDataOf row) 0))
 
 so : (d n r u : Bool) → T (not d || (n && r && u)) → d ≡ true → (n ≡ true) × ((r ≡ true) × (u ≡ true))
 so true true true true t e = (refl, (refl, refl))
@@ -79,16 +79,16 @@ so true false r u t e = absurd t
 so false n r u t e = absurd (true≢false (sym e))
 
 module _ (kind : ℕ) (row : List ℕ) (same : row ≡ typeRow kind) (in-d : hasClassD row ≡ true) where
-  all : (hasLink true row ≡ true) × ((hasLink false row ≡ true) × (not (eqb (userDataOf row) 0) ≡ true))
+  all : (hasLink true row ≡ true) × ((hasLink false row ≡ true) × (not (eqb (hasUserDataOf row) 0) ≡ true))
   unfolding classesOf linksOf
-  all = so (hasClassD row) (hasLink true row) (hasLink false row) (not (eqb (userDataOf row) 0)) (at-row whole kind row same tt) in-d
+  all = so (hasClassD row) (hasLink true row) (hasLink false row) (not (eqb (hasUserDataOf row) 0)) (at-row whole kind row same tt) in-d
 
   pub class-d-on-both : (normal : Bool) → hasLink normal row ≡ true
   class-d-on-both true = all .0
   class-d-on-both false = all .1 .0
 
   pub class-d-has-data : (userData : List ℕ) → unwantedData row userData ≡ false
-  class-d-has-data userData = simp (not-true (eqb (userDataOf row) 0) (all .1 .1))
+  class-d-has-data userData = simp (not-true (eqb (hasUserDataOf row) 0) (all .1 .1))
 
 -- the class stands within the least user data
 abbrev within : List ℕ → Bool

@@ -58,8 +58,8 @@ linksOf row = getD row 3 0 ∷ getD row 4 0 ∷ []
 unfoldable pub leastOf : List ℕ → ℕ
 leastOf row = getD row 5 0
 
-abbrev pub userDataOf : List ℕ → ℕ
-userDataOf row = getD row 6 0
+abbrev pub hasUserDataOf : List ℕ → ℕ
+hasUserDataOf row = getD row 6 0
 
 abbrev pub numberedZeroOf : List ℕ → ℕ
 numberedZeroOf row = getD row 7 0
@@ -90,7 +90,7 @@ hasLink normal row = eqb (getD (linksOf row) (cond normal 0 1) 0) 1
 
 -- user data where the type has none
 abbrev pub unwantedData : List ℕ → List ℕ → Bool
-unwantedData row userData = eqb (userDataOf row) 0 && ltb 0 (length userData)
+unwantedData row userData = eqb (hasUserDataOf row) 0 && ltb 0 (length userData)
 
 abbrev pub numberedZero : List ℕ → Bool
 numberedZero row = eqb (numberedZeroOf row) 1
