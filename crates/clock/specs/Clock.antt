@@ -12,47 +12,47 @@ use Rattle.clock.specs.declared.SignMagnitude.{SignMagnitude}
 use Rattle.clock.specs.declared.OffsetRead.{OffsetRead}
 use Rattle.clock.specs.declared.OffsetRead.the-variants.{Is, Malformed}
 
--- mod 2^32
+-- TIME-1: a count wraps
 unfoldable pub wrapped : ℤ → ℕ
 wrapped z = modulo z (2 ^ 32)
 
--- mod 2^32, taken in -2^31 .. 2^31-1
+-- KIND-3: mod 2^32, in -2^31 .. 2^31-1; KIND-6: so the negation of -2^31 is -2^31
 unfoldable pub centred : ℤ → ℤ
 centred z =
     when ltb (wrapped z) (2 ^ 31) answer pos (wrapped z) else
     (pos (wrapped z) -ℤ pos (2 ^ 32))
 
--- a clock "goes back" when now minus the last accepted now is centred negative
+-- KIND-4: now before the remembered clock; SLIP-2: over the wrap
 unfoldable pub goesBack : ℕ → ℕ → Bool
 goesBack now last = ltZ (centred (pos now -ℤ pos last)) (pos 0)
 
--- now minus the send's now, mod 2^32 and not centred
+-- WAIT-1: how long a wait has lasted, not centred; SLIP-2: over the wrap
 unfoldable pub waitOf : ℕ → ℕ → ℕ
 waitOf now since = wrapped (pos now -ℤ pos since)
 
--- age = centred (now - stamp + E - min)
+-- AGE-1; AGE-6: from 2^31 on it comes out negative
 unfoldable pub ageOf : ℕ → ℕ → ℕ → ℤ → ℤ
 ageOf now stamp e min = centred (pos now -ℤ pos stamp +ℤ pos e -ℤ min)
 
--- negative is 206, above T_max is 205, else delivered; 0 is fresh
+-- AGE-2 is Future, AGE-3 Late, AGE-4 and AGE-5 Fresh
 unfoldable pub verdictOf : ℤ → ℕ → Verdict
 verdictOf age t-max =
     when ltZ age (pos 0) answer Future else
     when ltZ (pos t-max) age answer Late else
     Fresh
 
--- 01's number for each verdict
+-- FORM-10: the number of each verdict
 abbrev pub verdictNumber : Verdict → ℕ
 verdictNumber Future = 206
 verdictNumber Late = 205
 verdictNumber Fresh = 0
 
--- an offset's sign and magnitude
+-- MSG-SIGN: an offset's sign and magnitude
 unfoldable pub signMagnitudeOf : ℤ → SignMagnitude
 signMagnitudeOf (pos n) = record { sign = 0; magnitude = n }
 signMagnitudeOf (negsuc n) = record { sign = 1; magnitude = suc n }
 
--- sign 0 with 0..2^31-1, or sign 1 with 1..2^31; other pairs are malformed
+-- MSG-SIGN: the offset that a pair gives; MSG-PAIR: every other pair is malformed
 unfoldable pub offsetRead : ℕ → ℕ → OffsetRead
 offsetRead sign magnitude =
     when eqb sign 0 && ltb magnitude (2 ^ 31) answer Is (record { 0 = pos magnitude }) else

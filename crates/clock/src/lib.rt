@@ -1,4 +1,4 @@
-// Counts, offsets and ages: three kinds of number that never mix.
+// Counts, offsets and ages: KIND-1.
 ghost use mathlib.Core.Path.{_≡_};
 ghost use Prim.Native.Nat.{_≤_, _^_};
 ghost use lib.Signed.{ltZ};
@@ -58,7 +58,7 @@ impl Centred {
 }
 
 impl Count {
-    // Whether the clock goes back from the last accepted now to this one: mod 2^32, their difference is in the upper half.
+    // KIND-4, from the remembered clock to this one: mod 2^32, their difference is in the upper half.
     pub fn goes_back(self, last: Count) -> bool
         ensures { λ r. ⌜ r ≡ goesBack (self .0) (last .0) ⌝ }
     {
@@ -120,7 +120,7 @@ impl Offset {
         self.0 < 0
     }
 
-    // Of -2^31 it is -2^31 again, mod 2^32 and centred.
+    // KIND-6: of -2^31 it is -2^31 again.
     pub fn negated(self) -> Offset
         ensures { λ r. ⌜ r .0 ≡ centred (negℤ (self .0)) ⌝ }
     {
@@ -177,7 +177,7 @@ impl Offset {
 }
 
 impl Age {
-    // now - stamp + E - min, mod 2^32 and centred.
+    // AGE-1.
     pub fn of(now: Count, stamp: Count, e: u32, min: Offset) -> Age
         ensures { λ r. ⌜ r .0 ≡ ageOf (now .0) (stamp .0) e (min .0) ⌝ }
     {

@@ -1,4 +1,4 @@
--- Big-endian fields: the number that bytes make, and the bytes that a number makes, highest byte first.
+-- FIELD-1: the number that bytes make, and the bytes that a number makes, highest byte first; OPEN-5: over the width.
 use Prim.Native.Nat.{ℕ, zero, suc, _+_, _*_, _/_, _%_}
 use mathlib.Core.List.{List, [], _∷_, _++_}
 use lib.ListN.{getD}

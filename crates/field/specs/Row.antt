@@ -1,4 +1,4 @@
--- A row of fields, one after the other: a format is said once, as the list of its widths.
+-- FIELD-2: a row of fields, one after the other. A format is said once, as the list of its widths.
 use Prim.Native.Nat.{ℕ, _+_, _^_, _<_}
 use mathlib.Core.List.{List, [], _∷_, _++_}
 use Rattle.field.specs.Field.{fieldOf, bytesOf}

@@ -66,8 +66,7 @@ pub then-312 : (userData : List ℕ) → length userData ≡ 1025 → writeAnswe
 unfolding writeAnswer notClassD inClassD classesOf opens
 then-312 userData e = simp e
 
--- The five headers of 004's annex (table 14) have these checks by 01's rule. The annex prints 1089, F38E, 8D12, C6E0 and 57A0 for them, which the most
--- significant bit of each byte first would give.
+-- PKT-ANNEX: the five headers of 004's annex (table 14) have these checks. The annex prints 1089, F38E, 8D12, C6E0 and 57A0 for them.
 pub annex-headers :
     checkOf (0x00 ∷ 0x1E ∷ 0x01 ∷ 0x1A ∷ 0x00 ∷ 0x00 ∷ 0x01 ∷ 0x01 ∷ [])
     ∷ checkOf (0x00 ∷ 0x21 ∷ 0x01 ∷ 0x1A ∷ 0x00 ∷ 0x00 ∷ 0x01 ∷ 0x02 ∷ [])

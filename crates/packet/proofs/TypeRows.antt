@@ -1,6 +1,6 @@
 -- The one law of the table of packet types, over every column: the row that a look through the table keeps, and a rule of the rows at any type.
 -- Assumes nothing.
-use Prim.Native.Nat.{ℕ, suc, _+_, _-_, _≤_, _<_}
+use Prim.Native.Nat.{ℕ, suc, _-_, _≤_, _<_}
 use mathlib.Core.Path.{_≡_, refl, sym, ap, ap₂, _∙_, subst}
 use mathlib.Core.Bool.{Bool, true, false, not, _||_, _&&_, true≢false}
 use mathlib.Core.List.{List, [], _∷_}
@@ -98,7 +98,7 @@ pub class-within : (kind : ℕ) (row : List ℕ) → row ≡ typeRow kind → (c
 unfolding leastOf
 class-within kind row e n = ltb→lt (classAtOf row) (leastOf row) (simp (ne-eqb (classAtOf row) 0 n) at (at-row within kind row e tt))
 
--- ---- the table against the words of 309, 306 and 311: what opens is type 1 or 2; AU1 has 9 bytes and class 3, AU2 4 bytes
+-- ---- the table against PKT-311, LINK-306 and LINK-309: what opens is type 1 or 2; an AU1 has 9 bytes and class 3, an AU2 4 bytes
 pub opens-au1-au2 : (kind : ℕ) → opens kind ≡ (eqb au1 kind || eqb au2 kind)
 unfolding opens
 opens-au1-au2 kind =

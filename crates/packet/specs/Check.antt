@@ -1,11 +1,10 @@
--- The check of a packet's header, as 01 words it: "over the first 8 bytes, polynomial x^16+x^12+x^5+1 as in ISO/IEC 3309 (least significant
--- bit of each byte first, register starts all ones), not inverted at the end, highest term in the field's lowest bit".
+-- The check of a packet's header: PKT-CHECK. PKT-ANNEX: it is not the check of 004's annex.
 -- Assumes nothing.
 use Prim.Native.Nat.{ℕ, zero, suc, _+_, _-_, _*_, _/_, _%_, _^_}
 use mathlib.Core.List.{List, [], _∷_}
 use lib.Bits.{bitXor}
 
--- The register holds the terms x^15 .. x^0, "highest term in the lowest bit": x^15 stands in bit 0, x^0 in bit 15.
+-- PKT-CHECK: the register holds the terms x^15 .. x^0, with x^15 in bit 0 and x^0 in bit 15.
 abbrev pub term : ℕ → ℕ
 term power = 2 ^ (15 - power)
 
@@ -18,7 +17,7 @@ polynomial = term 12 + term 5 + term 0
 unfoldable pub bitIn : ℕ → ℕ → ℕ
 bitIn register bit = bitXor (register / 2) (((register + bit) % 2) * polynomial)
 
--- The lowest n bits of a byte go in, "least significant bit first".
+-- PKT-CHECK: the lowest n bits of a byte go in, the lowest of them first.
 unfoldable pub bitsIn : ℕ → ℕ → ℕ → ℕ
 bitsIn zero register byte = register
 bitsIn (suc n) register byte = bitsIn n (bitIn register (byte % 2)) (byte / 2)
@@ -28,7 +27,7 @@ unfoldable pub bytesIn : ℕ → List ℕ → ℕ
 bytesIn register [] = register
 bytesIn register (byte ∷ bytes) = bytesIn (bitsIn 8 register byte) bytes
 
--- "register starts all ones"
+-- PKT-CHECK: what the register holds at first
 abbrev pub allOnes : ℕ
 allOnes = 2 ^ 16 - 1
 

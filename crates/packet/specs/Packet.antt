@@ -9,12 +9,11 @@ use Rattle.packet.specs.Sizes.{headerSize, leastLength, checkedBytes, ch
 use Rattle.packet.specs.Check.{checkOf}
 use Rattle.packet.specs.declared.Header.{Header}
 
--- "All fields big-endian: length 2 (bytes after this field), version 1, application type 1, transport number 2, N/R flag 1, packet type 1, check 2,
--- user data."
+-- PKT-LAYOUT: length 2, version 1, application type 1, transport number 2, N/R flag 1, packet type 1, check 2; then the user data
 abbrev pub widths : List ℕ
 widths = 2 ∷ 1 ∷ 1 ∷ 2 ∷ 1 ∷ 1 ∷ 2 ∷ []
 
--- the fields by their names, in this order
+-- the fields by their names, in this order; PKT-KEPT: version and application type are kept
 abbrev pub named : List ℕ → Header
 named fields = record {
   length = getD fields 0 0;
@@ -38,7 +37,7 @@ checkAt s at = checkOf (take checkedBytes (drop at s))
 abbrev pub dataOf : List ℕ → ℕ → List ℕ
 dataOf s at = take (headerOf s at .length - leastLength) (drop (at + headerSize) s)
 
--- "flag not 1 on normal, 0 on redundant" is a fault: "the link written for gives the flag"
+-- PKT-FLAG: the flag of a link
 abbrev pub flagOf : Bool → ℕ
 flagOf normal = cond normal 1 0
 
@@ -51,7 +50,7 @@ checkedOf normal version application number kind userData =
 abbrev pub checkFor : List ℕ → ℕ
 checkFor fields = checkOf (rowOf (take checkedFields widths) fields)
 
--- all bytes of that packet
+-- PKT-0: all bytes of that packet
 abbrev pub packetBytes : Bool → ℕ → ℕ → ℕ → ℕ → List ℕ → List ℕ
 packetBytes normal version application number kind userData =
     rowOf widths

@@ -1,4 +1,4 @@
--- What is written reads back as the same fields on that link, and what is read there is written back as the same bytes.
+-- DEMAND-2: what is written reads back as the same fields on that link, and what is read there is written back as the same bytes.
 -- Assumes nothing.
 use Prim.Native.Nat.{ℕ, _+_, _^_, _≤_, _<_}
 use mathlib.Core.Path.{_≡_}

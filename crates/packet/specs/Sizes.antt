@@ -1,4 +1,4 @@
--- The sizes of a packet: "Length is 8 to 1,032, so user data is 0 to 1,024." Length counts the bytes after its own field.
+-- The sizes of a packet: PKT-LEN.
 -- Assumes nothing.
 use Prim.Native.Nat.{ℕ, _+_}
 

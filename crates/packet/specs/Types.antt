@@ -1,4 +1,4 @@
--- The packet types: one table, a row for each type, in 01's order, with its service classes, its links and its payload rules.
+-- The packet types: one table, a row for each type, with its service classes, its links and its payload rules.
 -- Assumes nothing.
 use Prim.Native.Nat.{ℕ}
 use mathlib.Core.Bool.{Bool, cond, not, _||_, _&&_}
@@ -15,34 +15,32 @@ au1 = 1
 abbrev pub au2 : ℕ
 au2 = 2
 
--- "AU1 user data begins with caller id 4, called id 4, class 1."
+-- AU-1: caller id 4, called id 4, class 1
 abbrev pub au1Begins : List ℕ
 au1Begins = 4 ∷ 4 ∷ 1 ∷ []
 
--- "AU2 begins with the answering id 4."
+-- AU-2: the answering id 4
 abbrev pub au2Begins : List ℕ
 au2Begins = 4 ∷ []
 
--- "class D is 0x03"
+-- AU-1: the class of class D
 abbrev pub classD : ℕ
 classD = 0x03
 
--- "1 AU1, 2 AU2, 3 data, 4 release (A and D); 251, 253, 254, 255 (A only)." The links are those of table 10 of 004: types 1 to 4 go on both
--- (class D sends everything on both; class A on the active one, which may be either); 251 turns to the redundant link and goes there, 253 turns to
--- the normal link and goes there; 254 goes on the idle link and 255 on the active one, each of which may be either. By the same table 254 and 255
--- have no user data. The columns: type; in service class A; in service class D; on the normal link; on the redundant link; least user data; may have
--- user data; is numbered 0; the place of the class in the user data, 0 where it names none; the class that class D asks for there. Of what a type is
--- or may, 1 says that it does and 0 that it does not.
+-- PKT-TABLE. The columns: type; in service class A; in service class D; on the normal link; on the redundant link; least user data; may have user
+-- data; is numbered 0; the place of the class in the user data, 0 where it names none; the class that class D asks for there. Where a
+-- column asks yes or no, 1 is yes and 0 is no. The links and the user data are those of table 10 of 004: class D sends everything on both links, class A
+-- on the active one, which may be either.
 abbrev pub rows : List (List ℕ)
 rows =
-    (au1 ∷ 1 ∷ 1 ∷ 1 ∷ 1 ∷ widthOf au1Begins ∷ 1 ∷ 1 ∷ widthOf (take 2 au1Begins) ∷ classD ∷ [])
-    ∷ (au2 ∷ 1 ∷ 1 ∷ 1 ∷ 1 ∷ widthOf au2Begins ∷ 1 ∷ 1 ∷ 0 ∷ 0 ∷ [])
-    ∷ (3 ∷ 1 ∷ 1 ∷ 1 ∷ 1 ∷ 0 ∷ 1 ∷ 0 ∷ 0 ∷ 0 ∷ [])
-    ∷ (4 ∷ 1 ∷ 1 ∷ 1 ∷ 1 ∷ 0 ∷ 1 ∷ 0 ∷ 0 ∷ 0 ∷ [])
-    ∷ (251 ∷ 1 ∷ 0 ∷ 0 ∷ 1 ∷ 0 ∷ 1 ∷ 0 ∷ 0 ∷ 0 ∷ [])
-    ∷ (253 ∷ 1 ∷ 0 ∷ 1 ∷ 0 ∷ 0 ∷ 1 ∷ 0 ∷ 0 ∷ 0 ∷ [])
-    ∷ (254 ∷ 1 ∷ 0 ∷ 1 ∷ 1 ∷ 0 ∷ 0 ∷ 0 ∷ 0 ∷ 0 ∷ [])
-    ∷ (255 ∷ 1 ∷ 0 ∷ 1 ∷ 1 ∷ 0 ∷ 0 ∷ 0 ∷ 0 ∷ 0 ∷ [])
+    (au1 ∷ 1 ∷ 1 ∷ 1 ∷ 1 ∷ widthOf au1Begins ∷ 1 ∷ 1 ∷ widthOf (take 2 au1Begins) ∷ classD ∷ [])  -- TYPE-1
+    ∷ (au2 ∷ 1 ∷ 1 ∷ 1 ∷ 1 ∷ widthOf au2Begins ∷ 1 ∷ 1 ∷ 0 ∷ 0 ∷ [])  -- TYPE-2
+    ∷ (3 ∷ 1 ∷ 1 ∷ 1 ∷ 1 ∷ 0 ∷ 1 ∷ 0 ∷ 0 ∷ 0 ∷ [])  -- TYPE-3
+    ∷ (4 ∷ 1 ∷ 1 ∷ 1 ∷ 1 ∷ 0 ∷ 1 ∷ 0 ∷ 0 ∷ 0 ∷ [])  -- TYPE-4
+    ∷ (251 ∷ 1 ∷ 0 ∷ 0 ∷ 1 ∷ 0 ∷ 1 ∷ 0 ∷ 0 ∷ 0 ∷ [])  -- TYPE-251
+    ∷ (253 ∷ 1 ∷ 0 ∷ 1 ∷ 0 ∷ 0 ∷ 1 ∷ 0 ∷ 0 ∷ 0 ∷ [])  -- TYPE-253
+    ∷ (254 ∷ 1 ∷ 0 ∷ 1 ∷ 1 ∷ 0 ∷ 0 ∷ 0 ∷ 0 ∷ 0 ∷ [])  -- TYPE-254
+    ∷ (255 ∷ 1 ∷ 0 ∷ 1 ∷ 1 ∷ 0 ∷ 0 ∷ 0 ∷ 0 ∷ 0 ∷ [])  -- TYPE-255
     ∷ []
 
 -- the cells of a row; its service classes are A and D, its links the normal one and the redundant one
@@ -95,11 +93,11 @@ unwantedData row userData = eqb (hasUserDataOf row) 0 && ltb 0 (length userData)
 abbrev pub numberedZero : List ℕ → Bool
 numberedZero row = eqb (numberedZeroOf row) 1
 
--- another class than the one that class D asks for
+-- AU-1: another class than the one that class D asks for
 abbrev pub anotherClass : List ℕ → List ℕ → Bool
 anotherClass row userData = not (eqb (classAtOf row) 0) && not (eqb (fieldOf userData (classAtOf row) 1) (classOf row))
 
--- "not numbered 0, too short or of another class"
+-- the faults of an opening packet: its number, its length, its class
 abbrev pub faultIn : List ℕ → ℕ → List ℕ → Bool
 faultIn row number userData = not (eqb number 0) || ltb (length userData) (leastOf row) || anotherClass row userData
 
@@ -110,10 +108,10 @@ inClassD kind = hasClassD (typeRow kind)
 unfoldable pub goesOn : Bool → ℕ → Bool
 goesOn normal kind = hasLink normal (typeRow kind)
 
--- AU1 or AU2, which are the types numbered 0
+-- TYPE-1 and TYPE-2, which are the types numbered 0
 unfoldable pub opens : ℕ → Bool
 opens kind = numberedZero (typeRow kind)
 
--- "AU1 or AU2 not numbered 0, too short or of another class"
+-- PKT-311, LINK-309: an AU1 or AU2 with such a fault; AU-3: an AU2 has no class
 unfoldable pub openingFault : ℕ → ℕ → List ℕ → Bool
 openingFault kind number userData = faultIn (typeRow kind) number userData

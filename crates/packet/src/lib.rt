@@ -85,8 +85,8 @@ pub fn check(s: &[u8], at: usize) -> u16
     q
 }
 
-// The columns of the table of packet types that are looked up. Of what a type is or may, 1 says that it does and 0 that it does not; the class stands
-// at a place of the user data, which is 0 where the type names none.
+// The columns of the table of packet types that are looked up. Where a column asks yes or no, 1 is yes and 0 is no; the place of the class in the user
+// data is 0 where the type names none.
 const KIND: usize = 0;
 
 const IN_CLASS_D: usize = 2;
@@ -105,7 +105,7 @@ const CLASS_AT: usize = 8;
 
 const CLASS: usize = 9;
 
-// The table of the packet types, a row to each.
+// PKT-TABLE: the packet types, a row to each.
 const TYPES: [[u8; 10]; 8] = [
     // type; class A, class D; normal link, redundant link; least user data, may have user data, numbered 0, place of the class, class
     [AU1, 1, 1, 1, 1, 9, 1, 1, 8, CLASS_D],
@@ -196,7 +196,7 @@ pub fn opens(kind: u8) -> bool
     numbered_zero(type_row(kind))
 }
 
-// AU1 or AU2 not numbered 0, too short or of another class, which AU1 alone names, after the ids of caller and called.
+// PKT-311, LINK-309: a fault in number, length or class of an AU1 or AU2.
 pub fn opening_fault(kind: u8, number: u16, data: &[u8]) -> bool
     ensures { λ r. ⌜ r ≡ openingFault kind number (now («data» .entry)) ⌝ }
 {
@@ -285,8 +285,7 @@ fn put(
     field::copy(out, HEADER_SIZE, data);
 }
 
-// A type not in class D, or AU1 or AU2 not numbered 0, too short or of another class. The table is asked for the link and for user data too; it has every
-// type in class D on both links and with user data.
+// PKT-311. The table is asked for the link and for user data too; it has every type in class D on both links and with user data.
 fn not_class_d(normal: bool, number: u16, kind: u8, data: &[u8]) -> bool
     ensures { λ r. ⌜ r ≡ notClassD number kind (now («data» .entry)) ⌝ }
 {

@@ -1,4 +1,4 @@
--- "mod m": the number of 0 .. m - 1 that differs from z by a multiple of m.
+-- KIND-2: mod m.
 use Prim.Native.Nat.{ℕ, suc, _-_, _%_}
 use lib.IntN.{ℤ, pos, negsuc}
 

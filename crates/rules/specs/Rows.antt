@@ -1,4 +1,4 @@
--- A table of 01 as rows in 01's order: the first row that applies gives the answer.
+-- A table of the rules as rows, in the rules' order: ORDER-1.
 use mathlib.Core.Bool.{Bool, true, false}
 
 infixr 1 when_answer_else_

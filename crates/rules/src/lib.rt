@@ -1,1 +1,1 @@
-// The words in which the tables of document 01 are written: specs/ has the definitions, proofs/ their laws. No code.
+// The words in which the tables of the rules are written: specs/ has the definitions, proofs/ their laws. No code.

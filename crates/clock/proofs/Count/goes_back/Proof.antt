@@ -1,6 +1,6 @@
 -- `clock::Count::goes_back` meets its contract: the upper half is what is centred negative. Assumes nothing.
 use mathlib.Core.Path.{ap, _∙_}
-use Prim.Native.Nat.{ℕ, _^_}
+use Prim.Native.Nat.{_^_}
 use borrow.Author.Needs.{needs}
 use lib.Dec.{leb}
 use lib.IntN.{pos, _-ℤ_}
