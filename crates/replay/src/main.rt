@@ -87,7 +87,8 @@ fn piece(
 ) -> Replayed
     requires { ⌜ Within w (length (now buffer)) × (mostRecord ≤ length (now buffer)) × (length (now buffer) ≤ 65536) × (length (now lent) ≡ room) ⌝ }
     requires { ⌜ (at ≤ length (now out)) × (mostLine ≤ length (now out)) × (p .count + 65536 < 2 ^ 64) ⌝ }
-    ensures { λ r. ⌜ (r .failed ≡ false → PieceOf (now (buffer .entry)) w p (now (out .entry)) at (now (buffer .exit)) (now (out .exit)) (r .advanced)) ⌝ }
+    ensures { λ r. ⌜ (r .failed ≡ false → PieceOf (now (buffer .entry)) w p (now (lent .entry)) (now (out .entry)) at
+        (now (buffer .exit)) (now (lent .exit)) (now (out .exit)) (r .advanced)) ⌝ }
     ensures { λ r. ⌜ Within (r .advanced .window) (length (now (buffer .entry))) × (r .advanced .next ≤ length (now (out .entry)))
         × (r .advanced .progress .count ≤ p .count + 65536) ⌝ }
 {

@@ -1,19 +1,23 @@
 -- What the call of each kind of record comes to.
 -- Assumes nothing.
 use Prim.Native.Nat.{ℕ, _<_}
-use mathlib.Core.Path.{_≡_, refl}
+use mathlib.Core.Path.{_≡_, refl, sym, ap}
 use mathlib.Core.Bool.{Bool, true, false, not}
 use mathlib.Core.List.{List, []}
 use native.Mathlib.Omega.{arith}
 use borrow.Author.Tests.{eqb-true, lt-ltb, ne-eqb}
 use lib.Dec.{eqb}
 use lib.ListN.{length, getD}
+use lib.Seq.{sets}
 use Rattle.rules.specs.Rows.{when_answer_else_}
 use Rattle.field.specs.Row.{fieldsOf, widthOf}
 use Rattle.connection.specs.declared.Connection.{Connection}
 use Rattle.connection.specs.Connection.{closed}
+use Rattle.clock.specs.declared.Count.{Count}
+use Rattle.judging.specs.declared.Reply.{Reply}
 use Rattle.judging.specs.declared.Outcome.{Outcome}
-use Rattle.calls.specs.Calls.{bad, beginRefusal, refused, beginOutcome, receiveOutcome, sendOutcome, tickOutcome, closeOutcome}
+use Rattle.calls.specs.Calls.{bad, beginRefusal, refused, beginOutcome, receiveOutcome, sendOutcome, tickOutcome, closeOutcome, replyBytes, outAfter}
+use Rattle.calls.proofs.Replies.{tick-silent, close-silent}
 use Rattle.trace.specs.Call.{room, beginWidths, beginNamed, noBegin, beginOf, beginWith, OthersGive104, outcomeOf, lentOf}
 use Rattle.trace.specs.declared.Record.{Record}
 
@@ -45,6 +49,13 @@ module _ (c : Connection) (r : Record) (bytes : List ℕ) where
   pub others-lend-none : (r .kind ≡ 3 → ⊥) → lentOf r bytes ≡ []
   unfolding lentOf
   others-lend-none n3 = rw (ne-eqb (r .kind) 3 n3)
+
+-- a tick and a close leave the out buffer as it was
+pub tick-leaves : (c : Connection) (now : Count) (out : List ℕ) → out ≡ outAfter (tickOutcome c now) [] out
+tick-leaves c now out = sym (ap (λ (reply : Reply). sets out 0 (replyBytes reply [])) (tick-silent c now))
+
+pub close-leaves : (c : Connection) (out : List ℕ) → out ≡ outAfter (closeOutcome c) [] out
+close-leaves c out = sym (ap (λ (reply : Reply). sets out 0 (replyBytes reply [])) (close-silent c))
 
 -- bytes of another size, or with a role over 1, hold a role over 1
 no-role : (bytes : List ℕ) → (length bytes ≡ widthOf beginWidths → 1 < getD (fieldsOf beginWidths bytes 0) 0 0) → 1 < beginOf bytes .role

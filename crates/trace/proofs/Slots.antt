@@ -7,8 +7,9 @@ use mathlib.Core.List.{List}
 use borrow.Author.Tests.{le-leb, lt-leb}
 use lib.ListN.{length, set}
 use Rattle.connection.specs.declared.Connection.{Connection}
-use Rattle.table.specs.Table.{badSlot, recordAt, answerAt, tableAfter}
-use Rattle.trace.specs.Call.{outcomeOf, answerTo, tableTo}
+use Rattle.calls.specs.Calls.{outAfter}
+use Rattle.table.specs.Table.{badSlot, recordAt, answerAt, tableAfter, outAt}
+use Rattle.trace.specs.Call.{outcomeOf, lentOf, answerTo, tableTo, outTo}
 use Rattle.trace.specs.Replay.{replays}
 use Rattle.trace.specs.declared.Record.{Record}
 use Rattle.trace.specs.declared.Progress.{Progress}
@@ -25,6 +26,10 @@ module _ (table : List Connection) (r : Record) (bytes : List ℕ) (size : lengt
   pub slot-table : {after : Connection} → r .slot < 64 → after ≡ outcomeOf (recordAt table (r .slot)) r bytes .next → set table (r .slot) after ≡ tableTo table r bytes
   slot-table h e = ap (set table (r .slot)) e ∙ stored h
 
+  pub slot-out : (out : List ℕ) → r .slot < 64 → outAfter (outcomeOf (recordAt table (r .slot)) r bytes) (lentOf r bytes) out ≡ outTo table r bytes out
+  unfolding outAt badSlot
+  slot-out out h = rw (size, lt-leb 64 (r .slot) h)
+
   pub bad-number : 64 ≤ r .slot → 101 ≡ answerTo table r bytes .number
   unfolding answerAt badSlot
   bad-number h = rw (size, le-leb 64 (r .slot) h)
@@ -32,6 +37,10 @@ module _ (table : List Connection) (r : Record) (bytes : List ℕ) (size : lengt
   pub bad-table : 64 ≤ r .slot → table ≡ tableTo table r bytes
   unfolding tableAfter badSlot
   bad-table h = rw (size, le-leb 64 (r .slot) h)
+
+  pub bad-out : (out : List ℕ) → 64 ≤ r .slot → out ≡ outTo table r bytes out
+  unfolding outAt badSlot
+  bad-out out h = rw (size, le-leb 64 (r .slot) h)
 
 -- how far a replay is after one record more
 pub one-record-more : (p : Progress) (r : Record) (bytes : List ℕ) {after : List Connection} → after ≡ tableTo (p .table) r bytes → p .stopped ≡ false

@@ -90,7 +90,7 @@ module _ (buffer toRead text : List ℕ) where
 
 -- a replay through a window prints what is left to print
 prints : (trace : List ℕ) {buffer : List ℕ} {w : Window} {toRead : List ℕ} {p : Progress} {printed : List ℕ} → Replays trace buffer w toRead p printed
-    → Prints buffer toRead (replayOf trace) (record { progress = p; window = w; text = printed })
+    → Prints buffer toRead (replayOf trace) (record { progress = p; window = w; text = printed; lent = [] })
 prints trace (starts buffer) = record { lies = (omega arith, omega arith); all = λ e. absurd (false≢true e); whole = refl }
 prints trace (refills {buffer} {w} {toRead} {p} {printed} run after r refilled size rest next all) =
     let holds = prints trace run in
@@ -103,10 +103,12 @@ prints trace (refills {buffer} {w} {toRead} {p} {printed} run after r refilled s
           ∙ ap (λ (l : List ℕ). unread buffer w ++ l) (sym next))
           ∙ holds .whole;
     }
-prints trace (advances {buffer} {w} {toRead} {p} {printed} run room) =
+prints trace (advances {buffer} {w} {toRead} {p} {printed} run room lent) =
     let holds = prints trace run in
-    let y = advanceOf room buffer (reachOf p w) in
-    let after = prints-advanced buffer toRead (replayFrom p (unread buffer w ++ toRead)) (suc (leftOf w)) room (reachOf p w) (record { lies = holds .lies; all = holds .all; whole = refl }) in
+    let y = advanceOf room buffer (reachOf p w lent) in
+    let after =
+    prints-advanced buffer toRead (replayFrom p (unread buffer w ++ toRead)) (suc (leftOf w)) room (reachOf p w lent)
+    (record { lies = holds .lies; all = holds .all; whole = refl }) in
     record {
       lies = after .lies;
       all = after .all;
@@ -172,9 +174,10 @@ ended-stays (suc n) room buffer x =
     either true y e = refl
     either false y e = e
 
-module _ (buffer : List ℕ) (p : Progress) (w : Window) (out : List ℕ) (place : ℕ) (outAfter : List ℕ) (r : Advanced) (advanced : AdvancedTo buffer p w out place outAfter r) where
+module _ (buffer : List ℕ) (p : Progress) (w : Window) (lent out : List ℕ) (place : ℕ) (lentAfter outAfter : List ℕ) (r : Advanced)
+    (advanced : AdvancedTo buffer p w lent out place lentAfter outAfter r) where
   reached : Reach
-  reached = advanceOf (length out - place) buffer (reachOf p w)
+  reached = advanceOf (length out - place) buffer (reachOf p w lent)
 
   -- the replay after the records of a piece
   advanced-replays : (written : List ℕ) (at : ℕ) (read : List ℕ) → ((rest : List ℕ) → (w .ended ≡ true → rest ≡ []) → Replays (read ++ rest) buffer w rest p (written ++ take at out))
@@ -184,7 +187,8 @@ module _ (buffer : List ℕ) (p : Progress) (w : Window) (out : List ℕ) (place
     read = read;
     written = before;
     replays = λ rest all.
-        let run = advances (replays rest (λ ended. all (ap (λ (v : Window). v .ended) (advanced .window) ∙ ended-stays (suc (leftOf w)) (length out - place) buffer (reachOf p w) ∙ ended))) (length out - place) in
+        let stays = ap (λ (v : Window). v .ended) (advanced .window) ∙ ended-stays (suc (leftOf w)) (length out - place) buffer (reachOf p w lent) in
+        let run = advances (replays rest (λ ended. all (stays ∙ ended))) (length out - place) lent in
         subst (λ (v : Window). Replays (read ++ rest) buffer v rest (r .progress) (before ++ take (r .next) outAfter)) (sym (advanced .window))
         (subst (λ (q : Progress). Replays (read ++ rest) buffer (reached .window) rest q (before ++ take (r .next) outAfter)) (sym (advanced .progress))
         (subst (λ (l : List ℕ). Replays (read ++ rest) buffer (reached .window) rest (reached .progress) l)
@@ -201,13 +205,14 @@ place-is size at = by (ltb (size - at) mostLine)
     by false = inl refl
 
 -- a piece carries the replay on
-pub piece-replays : (before : List ℕ) (w : Window) (p : Progress) (out : List ℕ) (at : ℕ) (after outAfter : List ℕ) (r : Advanced)
-    → length after ≡ length before → PieceOf before w p out at after outAfter r → Replaying before w p out at
+pub piece-replays : (before : List ℕ) (w : Window) (p : Progress) (lent out : List ℕ) (at : ℕ) (after lentAfter outAfter : List ℕ) (r : Advanced)
+    → length after ≡ length before → PieceOf before w p lent out at after lentAfter outAfter r → Replaying before w p out at
     → Replaying after (r .window) (r .progress) outAfter (r .next)
-piece-replays before w p out at after outAfter r size piece was =
+piece-replays before w p lent out at after lentAfter outAfter r size piece was =
     let v = piece .topped .window in
     let now = topped-replays before w p out at after (piece .topped) size (piece .up) was in
-    let carried = advanced-replays after p v out (placeOf (length out) at) outAfter r (piece .advanced) (now .written) at (now .read) (now .replays) in
+    let place = placeOf (length out) at in
+    let carried = advanced-replays after p v lent out place lentAfter outAfter r (piece .advanced) (now .written) at (now .read) (now .replays) in
     ⊎-elim (λ here. carried (now .written) (ap (λ (n : ℕ). now .written ++ take n out) here))
     (λ front. carried (now .written ++ take at out) (ap (λ (n : ℕ). now .written ++ take at out ++ take n out) front ∙ append-nil (now .written ++ take at out)))
     (place-is (length out) at)

@@ -14,7 +14,7 @@ use Rattle.connection.specs.Connection.{closed, noSettings}
 use Rattle.judging.specs.declared.Outcome.{Outcome}
 use Rattle.calls.specs.declared.Answer.{Answer}
 use Rattle.calls.specs.Calls.{bad, refused, beginOutcome, receiveOutcome, sendOutcome, tickOutcome, closeOutcome}
-use Rattle.table.specs.Table.{recordAt, answerAt, tableAfter}
+use Rattle.table.specs.Table.{recordAt, answerAt, tableAfter, outAt}
 use Rattle.trace.specs.declared.Record.{Record}
 use Rattle.trace.specs.declared.Begin.{Begin}
 
@@ -77,9 +77,12 @@ lentOf r bytes =
     when eqb (r .kind) 3 answer bytes else
     []
 
--- the call's answer, and the table after it
+-- the call's answer, the table after it, and the out buffer after it
 abbrev pub answerTo : List Connection → Record → List ℕ → Answer
 answerTo table r bytes = answerAt table (r .slot) (outcomeOf (recordAt table (r .slot)) r bytes) (lentOf r bytes)
 
 abbrev pub tableTo : List Connection → Record → List ℕ → List Connection
 tableTo table r bytes = tableAfter table (r .slot) (outcomeOf (recordAt table (r .slot)) r bytes)
+
+abbrev pub outTo : List Connection → Record → List ℕ → List ℕ → List ℕ
+outTo table r bytes out = outAt table (r .slot) (outcomeOf (recordAt table (r .slot)) r bytes) (lentOf r bytes) out

@@ -16,11 +16,12 @@ use Rattle.trace.specs.Replay.{Turn, turnOf}
 use Rattle.trace.specs.declared.Progress.{Progress}
 use Rattle.trace.specs.declared.Advanced.{Advanced}
 
--- How far a replay is with the bytes at hand: the window on those that are left, and what was printed.
+-- How far a replay is with the bytes at hand: the window on those that are left, what was printed, and what the out buffer lent to the calls holds.
 pub record Reach : Type 0 where
   pub progress : Progress
   pub window : Window
   pub text : List ℕ
+  pub lent : List ℕ
 
 -- it waits where it has stopped, where the bytes at hand may cut a record that the trace holds whole, and where there is no room for a line
 unfoldable pub waits : Bool → Window → ℕ → Bool
@@ -28,7 +29,7 @@ waits stopped w room = stopped || lowOf mostRecord w || ltb room mostLine
 
 -- one turn more
 abbrev pub reachedBy : Reach → Turn → Reach
-reachedBy x t = record { progress = t .progress; window = usedOf (t .used) (x .window); text = x .text ++ t .text }
+reachedBy x t = record { progress = t .progress; window = usedOf (t .used) (x .window); text = x .text ++ t .text; lent = t .lent (x .lent) }
 
 abbrev pub turned : List ℕ → Reach → Reach
 turned buffer x = reachedBy x (turnOf (x .progress) (unread buffer (x .window)))
@@ -51,14 +52,16 @@ TurnsUntilItWaits = (room : ℕ) (buffer : List ℕ) (x : Reach) → advanceOf r
     advanceOf room buffer (turned buffer x))
 
 -- before the first turn of a piece nothing of it is printed
-abbrev pub reachOf : Progress → Window → Reach
-reachOf p w = record { progress = p; window = w; text = [] }
+abbrev pub reachOf : Progress → Window → List ℕ → Reach
+reachOf p w lent = record { progress = p; window = w; text = []; lent = lent }
 
--- A piece that was replayed, with its text put into an out buffer at a place: all turns that the bytes at hand and the room behind that place allow.
-pub record AdvancedTo (buffer : List ℕ) (p : Progress) (w : Window) (before : List ℕ) (at : ℕ) (after : List ℕ) (r : Advanced) : Type 0 where
-  pub progress : r .progress ≡ advanceOf (length before - at) buffer (reachOf p w) .progress
-  pub window : r .window ≡ advanceOf (length before - at) buffer (reachOf p w) .window
-  pub put : PutAt before at (advanceOf (length before - at) buffer (reachOf p w) .text) after (r .next)
+-- A piece that was replayed, with its text put into an out buffer at a place: all turns that the bytes at hand and the room behind that place allow. The
+-- calls were lent the bytes `lent`, and left them as `lentAfter`.
+pub record AdvancedTo (buffer : List ℕ) (p : Progress) (w : Window) (lent before : List ℕ) (at : ℕ) (lentAfter after : List ℕ) (r : Advanced) : Type 0 where
+  pub progress : r .progress ≡ advanceOf (length before - at) buffer (reachOf p w lent) .progress
+  pub window : r .window ≡ advanceOf (length before - at) buffer (reachOf p w lent) .window
+  pub put : PutAt before at (advanceOf (length before - at) buffer (reachOf p w lent) .text) after (r .next)
+  pub leaves : lentAfter ≡ advanceOf (length before - at) buffer (reachOf p w lent) .lent
   pub lies : Within (r .window) (length buffer)
   pub within : r .next ≤ length before
   pub counted : r .progress .count + leftOf (r .window) ≤ p .count + leftOf w

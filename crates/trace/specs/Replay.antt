@@ -8,7 +8,7 @@ use lib.ListN.{length, drop, replicate}
 use Rattle.rules.specs.Rows.{when_answer_else_}
 use Rattle.connection.specs.Connection.{released}
 use Rattle.trace.specs.Record.{recordOf, sizeOf, bytesIn}
-use Rattle.trace.specs.Call.{answerTo, tableTo}
+use Rattle.trace.specs.Call.{answerTo, tableTo, outTo}
 use Rattle.trace.specs.Printed.{heading, lineOf, badLine, endOf}
 use Rattle.trace.specs.declared.Record.{Record}
 use Rattle.trace.specs.declared.Next.{Next}
@@ -19,14 +19,16 @@ use Rattle.trace.specs.declared.Progress.{Progress}
 abbrev pub startOf : Progress
 startOf = record { table = replicate 64 released; count = 0; stopped = false }
 
--- A turn: what it prints, how many bytes of the trace it uses up, and how far the replay is after it.
+-- A turn: what it prints, how many bytes of the trace it uses up, how far the replay is after it, and what it leaves in the out buffer that is lent to the
+-- calls, by what stood there.
 pub record Turn : Type 0 where
   pub text : List ℕ
   pub used : ℕ
   pub progress : Progress
+  pub lent : List ℕ → List ℕ
 
 abbrev pub stops : Progress → List ℕ → Turn
-stops p text = record { text = text; used = 0; progress = record { table = p .table; count = p .count; stopped = true } }
+stops p text = record { text = text; used = 0; progress = record { table = p .table; count = p .count; stopped = true }; lent = λ (out : List ℕ). out }
 
 -- one line a record
 abbrev pub replays : Progress → Record → List ℕ → Turn
@@ -34,6 +36,7 @@ replays p r bytes = record {
   text = lineOf (r .slot) (answerTo (p .table) r bytes .number);
   used = sizeOf r;
   progress = record { table = tableTo (p .table) r bytes; count = p .count + 1; stopped = false };
+  lent = outTo (p .table) r bytes;
 }
 
 -- at the end of the trace the last line; a bad record "prints `bad` and stops", and "after `bad` the last line counts the records before it"

@@ -24,7 +24,8 @@ wasRead w after r = drop (leftOf w) (unread after (r .window))
 -- A replay of a trace through a window: the buffer, the window on the bytes at hand, the bytes of the trace that are still to be read, how far the replay
 -- is, and all that was printed. It starts with the heading. A refill (what `window::refill` ensures) reads the next bytes of the trace, and all of
 -- them where it says that the trace has ended: this alone is assumed of the calls that read. Then as many records as the bytes at hand and some room
--- for text allow are replayed (what `trace::advance` ensures). Refills and pieces come in any order and number.
+-- for text allow are replayed (what `trace::advance` ensures), whatever the out buffer lent to the calls holds. Refills and pieces come in any order and
+-- number.
 pub data Replays (trace : List ℕ) : List ℕ → Window → List ℕ → Progress → List ℕ → Type 0 where
   starts : (buffer : List ℕ) → Replays trace buffer emptyWindow trace startOf heading
   refills : {buffer : List ℕ} {w : Window} {toRead : List ℕ} {p : Progress} {printed : List ℕ} → Replays trace buffer w toRead p printed
@@ -32,8 +33,8 @@ pub data Replays (trace : List ℕ) : List ℕ → Window → List ℕ → Progr
       → (rest : List ℕ) → toRead ≡ wasRead w after r ++ rest → (r .window .ended ≡ true → rest ≡ [])
       → Replays trace after (r .window) rest p printed
   advances : {buffer : List ℕ} {w : Window} {toRead : List ℕ} {p : Progress} {printed : List ℕ} → Replays trace buffer w toRead p printed
-      → (room : ℕ) → Replays trace buffer (advanceOf room buffer (reachOf p w) .window) toRead (advanceOf room buffer (reachOf p w) .progress)
-      (printed ++ advanceOf room buffer (reachOf p w) .text)
+      → (room : ℕ) (lent : List ℕ) → Replays trace buffer (advanceOf room buffer (reachOf p w lent) .window) toRead
+      (advanceOf room buffer (reachOf p w lent) .progress) (printed ++ advanceOf room buffer (reachOf p w lent) .text)
 
 -- Where such a replay has stopped, all that was printed is what the replay prints for the whole trace.
 abbrev pub PiecesAsWhole : Type 0
@@ -55,10 +56,10 @@ placeOf size at =
 
 -- One piece: room for a line; the window topped up; and as many records as the bytes at hand and the room allow are replayed, with their text put into
 -- the out buffer.
-pub record PieceOf (before : List ℕ) (w : Window) (p : Progress) (out : List ℕ) (at : ℕ) (after outAfter : List ℕ) (r : Advanced) : Type 0 where
+pub record PieceOf (before : List ℕ) (w : Window) (p : Progress) (lent out : List ℕ) (at : ℕ) (after lentAfter outAfter : List ℕ) (r : Advanced) : Type 0 where
   pub topped : Refilled
   pub up : ToppedUp before w after topped
-  pub advanced : AdvancedTo after p (topped .window) out (placeOf (length out) at) outAfter r
+  pub advanced : AdvancedTo after p (topped .window) lent out (placeOf (length out) at) lentAfter outAfter r
 
 -- Between the pieces: the bytes that were read and the text that was written, so that with any bytes that follow, none where the trace has ended, it is
 -- the replay of a trace that has printed what was written and what the out buffer holds.

@@ -5,7 +5,7 @@ ghost use mathlib.Core.List.{_++_};
 ghost use Prim.Native.Nat.{_+_, _^_, _≤_, _<_};
 ghost use lib.ListN.{length};
 ghost use Rattle.text.specs.Text.{PutAt};
-ghost use Rattle.calls.specs.Calls.{calledOf};
+ghost use Rattle.calls.specs.Calls.{calledOf, outAfter};
 ghost use Rattle.window.specs.Window.{Within, leftOf};
 ghost use Rattle.trace.specs.Record.{fieldsAt, fieldsSize, sizeOf, bytesIn, wrongMark, unknownKind, lengthOver, recordOf};
 ghost use Rattle.trace.specs.Call.{room, beginOf, outcomeOf, lentOf};
@@ -174,7 +174,8 @@ pub fn read(s: &[u8]) -> Next
 // The call that a record makes on its slot's record.
 fn called(c: Connection, r: Record, bytes: &[u8], lent: &mut [u8]) -> Called
     requires { ⌜ length (now lent) ≡ room ⌝ }
-    ensures { λ h. ⌜ h ≡ calledOf (outcomeOf c r (now (bytes .entry))) (lentOf r (now (bytes .entry))) ⌝ }
+    ensures { λ h. ⌜ (h ≡ calledOf (outcomeOf c r (now (bytes .entry))) (lentOf r (now (bytes .entry))))
+        × (now (lent .exit) ≡ outAfter (outcomeOf c r (now (bytes .entry))) (lentOf r (now (bytes .entry))) (now (lent .entry))) ⌝ }
 {
     let at = r.now;
     let kind = r.kind;
@@ -236,6 +237,7 @@ fn put_bad(out: &mut [u8], at: usize, count: u64) -> usize
 fn replayed(s: &[u8], r: Record, c: Connection, lent: &mut [u8], out: &mut [u8], at: usize) -> Left
     requires { ⌜ (sizeOf r ≤ length (now s)) × (length (now lent) ≡ room) × (at + mostLine ≤ length (now out)) ⌝ }
     ensures { λ t. ⌜ (t .«record» ≡ outcomeOf c r (bytesIn (now (s .entry)) r) .next)
+        × (now (lent .exit) ≡ outAfter (outcomeOf c r (bytesIn (now (s .entry)) r)) (lentOf r (bytesIn (now (s .entry)) r)) (now (lent .entry)))
         × PutAt (now (out .entry)) at (lineOf (r .slot) (outcomeOf c r (bytesIn (now (s .entry)) r) .answer)) (now (out .exit)) (t .at)
         × (t .at ≤ at + mostLine) ⌝ }
 {
@@ -273,7 +275,7 @@ pub fn advance(
     w: Window,
 ) -> Advanced
     requires { ⌜ Within w (length (now buffer)) × (length (now lent) ≡ room) × (place ≤ length (now out)) × (p .count + leftOf w < 2 ^ 64) ⌝ }
-    ensures { λ r. ⌜ AdvancedTo (now (buffer .entry)) p w (now (out .entry)) place (now (out .exit)) r ⌝ }
+    ensures { λ r. ⌜ AdvancedTo (now (buffer .entry)) p w (now (lent .entry)) (now (out .entry)) place (now (lent .exit)) (now (out .exit)) r ⌝ }
 {
     let mut table = p.table;
     let mut count = p.count;

@@ -58,7 +58,8 @@ returns-3 c =
         topped = topped .result;
         up = topped .ensures .0;
         advanced =
-            subst (λ (n : ℕ). AdvancedTo (topped .last .1 .1 .0) (a .p) (topped .result .window) (a .out .now) n (advance .last .1 .1 .0) (advance .result))
+            subst (λ (n : ℕ).
+            AdvancedTo (topped .last .1 .1 .0) (a .p) (topped .result .window) (a .lent .now) (a .out .now) n (advance .last .1 .0) (advance .last .1 .1 .0) (advance .result))
             (place .ensures .0) done;
       },
       (

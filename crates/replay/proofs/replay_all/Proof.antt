@@ -70,8 +70,8 @@ finish-requires c κs =
     let at = c .before .before .before .before .before .before .before .before .before .before .before .before .before .before .before .before .before .loop in
     let done = c .before .before .before .before .before .before .before .before .before .before .before .before .piece in
     let carried =
-    piece-replays (at .buffer) (at .window) (at .progress) (at .out) (at .at) (done .last .1 .1 .0) (done .last .1 .1 .1 .1 .0) (done .result .advanced)
-    (done .kept .1 .1 .0) (done .ensures .0 (c .before .before .before .before .before .if1 .left)) (at .inv .6) in
+    piece-replays (at .buffer) (at .window) (at .progress) (at .lent) (at .out) (at .at)
+    (done .last .1 .1 .0) (done .last .1 .1 .1 .0) (done .last .1 .1 .1 .1 .0) (done .result .advanced) (done .kept .1 .1 .0) (done .ensures .0 (c .before .before .before .before .before .if1 .left)) (at .inv .6) in
     let after = done .result .advanced in (
       omega (arith, done .ensures .1 .1, done .kept .1 .1 .1 .1 .0),
       printed-whole (done .last .1 .1 .0) (after .window) (after .progress) (done .last .1 .1 .1 .1 .0) (after .next) carried (c .before .if2 .taken),
@@ -101,8 +101,8 @@ loop-again c =
     let done = c .before .before .before .before .before .before .before .before .before .before .before .piece in
     let inv = at .inv in
     let carried =
-    piece-replays (at .buffer) (at .window) (at .progress) (at .out) (at .at) (done .last .1 .1 .0) (done .last .1 .1 .1 .1 .0) (done .result .advanced)
-    (done .kept .1 .1 .0) (done .ensures .0 (c .before .before .before .before .if1 .left)) (at .inv .6) in
+    piece-replays (at .buffer) (at .window) (at .progress) (at .lent) (at .out) (at .at)
+    (done .last .1 .1 .0) (done .last .1 .1 .1 .0) (done .last .1 .1 .1 .1 .0) (done .result .advanced) (done .kept .1 .1 .0) (done .ensures .0 (c .before .before .before .before .if1 .left)) (at .inv .6) in
     let lies = done .ensures .1 .0 in (
       done .kept .1 .1 .0 ∙ inv .0,
       done .kept .1 .1 .1 .0 ∙ inv .1,

@@ -15,7 +15,7 @@ use Rattle.trace.specs.Pieces.{reachOf}
 use Rattle.trace.specs.declared.Next.{Next}
 use Rattle.trace.specs.declared.Progress.{Progress}
 use Rattle.trace.proofs.Records.{whole-fits}
-use Rattle.trace.proofs.Slots.{slot-number, slot-table, bad-number, bad-table, one-record-more}
+use Rattle.trace.proofs.Slots.{slot-number, slot-table, slot-out, bad-number, bad-table, bad-out, one-record-more}
 use Rattle.trace.proofs.Turns.{at-most-left, stopped-waits, not-stopped, has-room}
 use Rattle.trace.proofs.Reaches.{Reaches, reaches-on, reaches-first, none-used, advanced-to}
 use Rattle.trace.proofs.advance.Statement.{statement}
@@ -25,7 +25,7 @@ abbrev Inv-loop : tie.InvT-loop
 Inv-loop buffer lent₀ out₀ place p table₀ count₀ window₀ at₀ lent out table count window at =
     (length lent ≡ length lent₀) × (length out ≡ length out₀) × (length table ≡ 64) × Within window (length buffer) × (at ≤ length out₀)
     × (count + leftOf window ≤ count₀ + leftOf window₀)
-    × Reaches buffer (reachOf p window₀) out₀ place out at (record { table = table; count = count; stopped = p .stopped }) window
+    × Reaches buffer (reachOf p window₀ lent₀) out₀ place lent out at (record { table = table; count = count; stopped = p .stopped }) window
 
 abbrev μ-loop : tie.MeasureT-loop
 μ-loop buffer lent₀ out₀ place p table₀ count₀ window₀ at₀ lent out table count window at = leftOf window
@@ -34,7 +34,7 @@ loop-holds : tie.Need-loop-holds Inv-loop μ-loop
 loop-holds c =
     let start = c .before .before .before .before in
     let a = start .args in
-    (refl, refl, simp length-map at (start .good .1 .1 .1 .1 .0 .1 .1 .0 .1 .0 .1), start .pre .0, start .pre .2, omega arith, reaches-first (a .buffer .now) (a .p) (a .w) (a .out .now) (a .place))
+    (refl, refl, simp length-map at (start .good .1 .1 .1 .1 .0 .1 .1 .0 .1 .0 .1), start .pre .0, start .pre .2, omega arith, reaches-first (a .buffer .now) (a .p) (a .w) (a .lent .now) (a .out .now) (a .place))
 
 sub-waiting : tie.Need-sub-waiting Inv-loop μ-loop
 sub-waiting c = omega (arith, c .loop .inv .1, c .loop .inv .4)
@@ -52,7 +52,7 @@ returns : tie.Need-returns Inv-loop μ-loop
 returns c =
     let a = c .before .before .before .before .before .before .before .args in
     let inv = c .before .before .loop .inv in
-    advanced-to (a .buffer .now) (a .p) (a .w) (a .out .now) (a .place) (inv .6) (inv .1) (sym (c .before .waiting .ensures) ∙ c .if1 .taken) (inv .3) (inv .4) (inv .5)
+    advanced-to (a .buffer .now) (a .p) (a .w) (a .lent .now) (a .out .now) (a .place) (inv .6) (inv .1) (sym (c .before .waiting .ensures) ∙ c .if1 .taken) (inv .3) (inv .4) (inv .5)
 
 sub-read : tie.Need-sub-read Inv-loop μ-loop
 sub-read c = omega (arith, c .before .before .loop .inv .3 .0)
@@ -90,9 +90,9 @@ returns-2 c =
     let is = sym (c .before .before .before .before .before .before .read .ensures) ∙ c .before .before .before .before .enum-told .given .1 in
     let size = put .kept .0 ∙ inv .1 in
     let reached =
-    reaches-on (a .buffer .now) (reachOf (a .p) (a .w)) (a .out .now) (a .place) (inv .6) (inv .1) goes (stops p (endOf (at .count)))
-    (ap (λ (n : Next). turnOn p n s) is) refl (none-used (at .window)) (put .ensures .0) in
-    advanced-to (a .buffer .now) (a .p) (a .w) (a .out .now) (a .place) reached size
+    reaches-on (a .buffer .now) (reachOf (a .p) (a .w) (a .lent .now)) (a .out .now) (a .place) (inv .6) (inv .1) goes (stops p (endOf (at .count)))
+    (ap (λ (n : Next). turnOn p n s) is) refl (none-used (at .window)) refl (put .ensures .0) in
+    advanced-to (a .buffer .now) (a .p) (a .w) (a .lent .now) (a .out .now) (a .place) reached size
     (stopped-waits true _ _ refl) (inv .3) (omega (arith, put .ensures .1, has-room _ _ _ goes, inv .1, inv .4)) (inv .5)
 
 enum-told-2 : tie.Need-enum-told-2 Inv-loop μ-loop
@@ -119,9 +119,9 @@ returns-3 c =
     let is = sym (c .before .before .before .before .before .before .read .ensures) ∙ c .before .before .before .before .enum-told2 .given .1 in
     let size = put .kept .0 ∙ inv .1 in
     let reached =
-    reaches-on (a .buffer .now) (reachOf (a .p) (a .w)) (a .out .now) (a .place) (inv .6) (inv .1) goes (stops p (badLine ++ endOf (at .count)))
-    (ap (λ (n : Next). turnOn p n s) is) refl (none-used (at .window)) (put .ensures .0) in
-    advanced-to (a .buffer .now) (a .p) (a .w) (a .out .now) (a .place) reached size
+    reaches-on (a .buffer .now) (reachOf (a .p) (a .w) (a .lent .now)) (a .out .now) (a .place) (inv .6) (inv .1) goes (stops p (badLine ++ endOf (at .count)))
+    (ap (λ (n : Next). turnOn p n s) is) refl (none-used (at .window)) refl (put .ensures .0) in
+    advanced-to (a .buffer .now) (a .p) (a .w) (a .lent .now) (a .out .now) (a .place) reached size
     (stopped-waits true _ _ refl) (inv .3) (omega (arith, put .ensures .1, has-room _ _ _ goes, inv .1, inv .4)) (inv .5)
 
 enum-known-first : tie.Need-enum-known-first Inv-loop μ-loop
@@ -235,15 +235,15 @@ loop-again c =
     let done = c .before .before .before .before .before .replayed in
     let h = c .before .before .before .before .before .before .before .before .before .before .if2 .taken in
     let after = slot-table (at .table) r bytes (inv .2) h (done .ensures .0) in
-    let line = subst (λ (n : ℕ). PutAt (at .out) (at .at) (lineOf (r .slot) n) (done .last .1 .1 .1 .1 .0) (done .result .at)) (slot-number (at .table) r bytes (inv .2) h) (done .ensures .1) in (
+    let line = subst (λ (n : ℕ). PutAt (at .out) (at .at) (lineOf (r .slot) n) (done .last .1 .1 .1 .1 .0) (done .result .at)) (slot-number (at .table) r bytes (inv .2) h) (done .ensures .2) in (
       done .kept .1 .1 .1 .0 ∙ inv .0,
       done .kept .1 .1 .1 .1 .0 ∙ inv .1,
       length-set (at .table) (r .slot) (done .result .«record») ∙ inv .2,
       (used .1 .0, omega (arith, used .1 .1, inv .3 .1)),
-      omega (arith, done .ensures .2, has-room _ _ _ goes, inv .1, inv .4),
+      omega (arith, done .ensures .3, has-room _ _ _ goes, inv .1, inv .4),
       omega (arith, left, inv .5, fits, few),
-      reaches-on (a .buffer .now) (reachOf (a .p) (a .w)) (a .out .now) (a .place) (inv .6) (inv .1) goes (replays p r bytes)
-          (ap (λ (n : Next). turnOn p n s) is) (one-record-more p r bytes after run) (used .0) line,
+      reaches-on (a .buffer .now) (reachOf (a .p) (a .w) (a .lent .now)) (a .out .now) (a .place) (inv .6) (inv .1) goes (replays p r bytes)
+          (ap (λ (n : Next). turnOn p n s) is) (one-record-more p r bytes after run) (used .0) (done .ensures .1 ∙ slot-out (at .table) r bytes (inv .2) (at .lent) h) line,
     )
 
 put-line-requires : tie.Need-put-line-requires Inv-loop μ-loop
@@ -294,8 +294,9 @@ loop-again-2 c =
       (used .1 .0, omega (arith, used .1 .1, inv .3 .1)),
       omega (arith, put .ensures .1, has-room _ _ _ goes, inv .1, inv .4),
       omega (arith, left, inv .5, fits, few),
-      reaches-on (a .buffer .now) (reachOf (a .p) (a .w)) (a .out .now) (a .place) (inv .6) (inv .1) goes (replays p r bytes)
-          (ap (λ (n : Next). turnOn p n s) is) (one-record-more p r bytes (bad-table (at .table) r bytes (inv .2) h) run) (used .0) line,
+      reaches-on (a .buffer .now) (reachOf (a .p) (a .w) (a .lent .now)) (a .out .now) (a .place) (inv .6) (inv .1) goes (replays p r bytes)
+          (ap (λ (n : Next). turnOn p n s) is) (one-record-more p r bytes (bad-table (at .table) r bytes (inv .2) h) run) (used .0)
+          (bad-out (at .table) r bytes (inv .2) (at .lent) h) line,
     )
 
 pub advance-spec : {M : Type 1} → statement M

@@ -1,14 +1,23 @@
 -- `trace::called` meets its contract, a kind of record after the other. Assumes nothing.
 use Prim.Native.Nat.{ℕ}
-use mathlib.Core.Path.{sym, ap, ap₂, _∙_}
+use mathlib.Core.Path.{_≡_, sym, ap, ap₂, _∙_}
+use mathlib.Core.List.{List}
 use native.Mathlib.Omega.{arith}
 use lib.ListN.{length}
-use Rattle.calls.specs.Calls.{beginOutcome, receiveOutcome, sendOutcome, calledOf}
+use Rattle.judging.specs.declared.Outcome.{Outcome}
+use Rattle.calls.specs.Calls.{beginOutcome, receiveOutcome, sendOutcome, calledOf, outAfter}
+use Rattle.calls.specs.declared.Called.{Called}
 use Rattle.trace.specs.declared.Begin.{Begin}
-use Rattle.trace.proofs.Outcomes.{begin-is, receive-is, send-is, tick-is, close-is, send-lends, others-lend-none}
+use Rattle.trace.proofs.Outcomes.{begin-is, receive-is, send-is, tick-is, close-is, send-lends, others-lend-none, tick-leaves, close-leaves}
 use borrow.Author.Needs.{needs}
 use Rattle.trace.proofs.called.Statement.{statement}
 use Rattle.trace.proofs.called.Tie as tie
+
+-- what a call comes to, and what it leaves in the out buffer, said of another outcome and other bytes that are the same
+alike : (lent : List ℕ) {h : Called} {o o′ : Outcome} {sent sent′ after : List ℕ} → o′ ≡ o → sent′ ≡ sent → h ≡ calledOf o sent → after ≡ outAfter o sent lent
+    → (h ≡ calledOf o′ sent′) × (after ≡ outAfter o′ sent′ lent)
+alike lent is same made left =
+    (made ∙ sym (ap₂ calledOf is same), left ∙ sym (ap₂ (λ (o : Outcome) (sent : List ℕ). outAfter o sent lent) is same))
 
 begin-of-requires : tie.Need-begin-of-requires
 begin-of-requires c κs = search needs
@@ -38,7 +47,7 @@ returns c =
     let k = c .before .before .before .before .before .before .match .keys1 in
     let fields = c .before .before .before .before .before .begin-of in
     let is = begin-is (a .c) (a .r) (a .bytes .now) k ∙ sym (ap₂ (λ (f : Begin) (n : ℕ). beginOutcome (a .c) (f .role) (f .settings) (f .first) (f .period) (a .r .now) n) (fields .ensures) (start .pre)) in
-    c .before .before .begin .ensures .0 ∙ sym (ap₂ calledOf is (others-lend-none (a .c) (a .r) (a .bytes .now) (λ e. omega (arith, k, e))))
+    alike (a .lent .now) is (others-lend-none (a .c) (a .r) (a .bytes .now) (λ e. omega (arith, k, e))) (c .before .before .begin .ensures .0) (c .before .before .begin .ensures .1)
 
 same-length-2 : tie.Need-same-length-2
 same-length-2 c = search needs
@@ -49,7 +58,7 @@ returns-2 c =
     let a = start .args in
     let k = c .before .before .before .before .match .keys2 in
     let is = receive-is (a .c) (a .r) (a .bytes .now) k ∙ sym (ap (receiveOutcome (a .c) (a .r .now) (a .bytes .now)) (start .pre)) in
-    c .before .before .receive .ensures .0 ∙ sym (ap₂ calledOf is (others-lend-none (a .c) (a .r) (a .bytes .now) (λ e. omega (arith, k, e))))
+    alike (a .lent .now) is (others-lend-none (a .c) (a .r) (a .bytes .now) (λ e. omega (arith, k, e))) (c .before .before .receive .ensures .0) (c .before .before .receive .ensures .1)
 
 same-length-3 : tie.Need-same-length-3
 same-length-3 c = search needs
@@ -60,7 +69,7 @@ returns-3 c =
     let a = start .args in
     let k = c .before .before .before .before .match .keys3 in
     let is = send-is (a .c) (a .r) (a .bytes .now) k ∙ sym (ap (sendOutcome (a .c) (a .r .now) (length (a .bytes .now))) (start .pre)) in
-    c .before .before .send .ensures .0 ∙ sym (ap₂ calledOf is (send-lends (a .c) (a .r) (a .bytes .now) k))
+    alike (a .lent .now) is (send-lends (a .c) (a .r) (a .bytes .now) k) (c .before .before .send .ensures .0) (c .before .before .send .ensures .1)
 
 returns-4 : tie.Need-returns-4
 returns-4 c =
@@ -68,7 +77,7 @@ returns-4 c =
     let a = start .args in
     let k = c .before .match .keys4 in
     let is = tick-is (a .c) (a .r) (a .bytes .now) k in
-    c .tick .ensures ∙ sym (ap₂ calledOf is (others-lend-none (a .c) (a .r) (a .bytes .now) (λ e. omega (arith, k, e))))
+    alike (a .lent .now) is (others-lend-none (a .c) (a .r) (a .bytes .now) (λ e. omega (arith, k, e))) (c .tick .ensures) (tick-leaves (a .c) (a .r .now) (a .lent .now))
 
 returns-5 : tie.Need-returns-5
 returns-5 c =
@@ -76,7 +85,7 @@ returns-5 c =
     let a = start .args in
     let k = c .before .match .rest in
     let is = close-is (a .c) (a .r) (a .bytes .now) (k .0 .0 .0 .1) (k .0 .0 .1) (k .0 .1) (k .1) in
-    c .close .ensures ∙ sym (ap₂ calledOf is (others-lend-none (a .c) (a .r) (a .bytes .now) (k .0 .1)))
+    alike (a .lent .now) is (others-lend-none (a .c) (a .r) (a .bytes .now) (k .0 .1)) (c .close .ensures) (close-leaves (a .c) (a .lent .now))
 
 pub called-spec : {M : Type 1} → statement M
 called-spec =

@@ -4,7 +4,7 @@ use mathlib.Core.Path.{_≡_, ap, subst, _∙_}
 use native.Mathlib.Omega.{arith}
 use lib.ListN.{take, drop}
 use Rattle.text.specs.Text.{PutAt}
-use Rattle.calls.specs.Calls.{calledOf}
+use Rattle.calls.specs.Calls.{calledOf, outAfter}
 use Rattle.calls.specs.declared.Called.{Called}
 use Rattle.trace.specs.Record.{fieldsSize, sizeOf}
 use Rattle.trace.specs.Call.{outcomeOf, lentOf}
@@ -47,8 +47,9 @@ returns c =
     let line = c .before .before .put-line in
     let rest = drop fieldsSize (a .s .now) in
     let size : sizeOf (a .r) - fieldsSize ≡ a .r .length = omega arith in
-    let is = made .ensures ∙ ap (λ (n : ℕ). calledOf (outcomeOf (a .c) (a .r) (take n rest)) (lentOf (a .r) (take n rest))) size in (
+    let is = made .ensures .0 ∙ ap (λ (n : ℕ). calledOf (outcomeOf (a .c) (a .r) (take n rest)) (lentOf (a .r) (take n rest))) size in (
       ap (λ (h : Called). h .next) is,
+      made .ensures .1 ∙ ap (λ (n : ℕ). outAfter (outcomeOf (a .c) (a .r) (take n rest)) (lentOf (a .r) (take n rest)) (a .lent .now)) size,
       subst (λ (h : Called). PutAt (a .out .now) (a .at) (lineOf (a .r .slot) (h .answer .number)) (line .last .0) (line .result)) is (line .ensures .0),
       line .ensures .1,
     )
