@@ -11,6 +11,7 @@ use libc::STDERR_FILENO;
 use links::State;
 use recording::Progress;
 use text::Chosen;
+use window::Read;
 use window::Refilled;
 use window::Window;
 
@@ -44,6 +45,7 @@ fn topped_up(fd: i32, name: &[u8], buffer: &mut [u8], window: Window) -> Refille
         return Refilled {
             window,
             failed: false,
+            last: Read { room: 0, got: 0 },
         };
     }
     let refilled = window::refill(fd, buffer, window);

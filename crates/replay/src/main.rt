@@ -12,6 +12,7 @@ use libc::STDERR_FILENO;
 use libc::STDIN_FILENO;
 use trace::Advanced;
 use trace::Progress;
+use window::Read;
 use window::Refilled;
 use window::Window;
 
@@ -38,6 +39,7 @@ fn topped_up(fd: i32, name: &[u8], buffer: &mut [u8], window: Window) -> Refille
         return Refilled {
             window,
             failed: false,
+            last: Read { room: 0, got: 0 },
         };
     }
     let refilled = window::refill(fd, buffer, window);

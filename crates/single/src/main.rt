@@ -11,6 +11,7 @@ mod one_packet;
 mod one_step;
 
 use text::Chosen;
+use window::Read;
 use window::Refilled;
 use window::Window;
 
@@ -73,6 +74,7 @@ fn topped_up(fd: i32, buffer: &mut [u8], window: Window) -> Refilled
         return Refilled {
             window,
             failed: false,
+            last: Read { room: 0, got: 0 },
         };
     }
     window::refill(fd, buffer, window)

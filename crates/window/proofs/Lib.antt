@@ -1,3 +1,5 @@
+pub mod Agree
 pub mod Empty
+pub mod LastRead
 pub mod Moved
 pub mod Unread

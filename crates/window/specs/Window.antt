@@ -4,9 +4,14 @@ use Prim.Native.Nat.{ℕ, _+_, _-_, _≤_}
 use mathlib.Core.Path.{_≡_}
 use mathlib.Core.Bool.{Bool, false, not, _&&_}
 use mathlib.Core.List.{List}
-use lib.Dec.{ltb}
+use lib.Dec.{ltb, eqb}
+use lib.IntN.{ℤ, pos, negsuc}
+use lib.Signed.{ltZ}
 use lib.ListN.{length, take, drop}
+use Rattle.libc.specs.Io.{Moved}
+use Rattle.io.specs.Counts.{clamped}
 use Rattle.window.specs.declared.Window.{Window}
+use Rattle.window.specs.declared.Read.{Read}
 use Rattle.window.specs.declared.Filled.{Filled}
 use Rattle.window.specs.declared.Refilled.{Refilled}
 
@@ -34,18 +39,49 @@ lowOf most w = ltb (leftOf w) most && not (w .ended)
 abbrev pub usedOf : ℕ → Window → Window
 usedOf used w = record { from = w .from + used; to = w .to; ended = w .ended }
 
--- Reading behind the first bytes of a buffer: they stay as they were. Unless a read failed or the file has ended, the buffer is full.
+-- a read that answers a number below 0 has failed
+abbrev pub failedBy : Read → Bool
+failedBy r = ltZ (r .got) (pos 0)
+
+abbrev pub isNought : ℤ → Bool
+isNought (pos k) = eqb k 0
+isNought (negsuc k) = false
+
+-- a read with room that answers 0 is the end of the file
+unfoldable pub endedBy : Read → Bool
+endedBy r = not (eqb (r .room) 0) && isNought (r .got)
+
+-- how many bytes a read gave
+abbrev pub cameBy : Read → ℕ
+cameBy r = clamped (r .got) (r .room)
+
+-- Reading behind the first bytes of a buffer: they stay as they were. The last read had all the room that was left for it, and what it gave is the last
+-- that was filled; where the buffer was full before, there was none. Unless it failed or ended the file, the buffer is full.
 pub record FilledFrom (before : List ℕ) (at : ℕ) (after : List ℕ) (r : Filled) : Type 0 where
   pub more : at ≤ r .to
   pub within : r .to ≤ length before
   pub kept : take at after ≡ take at before
-  pub full : r .failed ≡ false → r .ended ≡ false → r .to ≡ length before
+  pub moved : Moved (r .last .room) (r .last .got)
+  pub asked : r .to + r .last .room ≡ length before + cameBy (r .last)
+  pub full : failedBy (r .last) ≡ false → endedBy (r .last) ≡ false → r .to ≡ length before
 
--- A refill: the bytes that were left stand first, as they were, and what was read follows them. Unless a read failed or the file has ended, the
--- buffer is full.
+-- A refill: the bytes that were left stand first, as they were, and what was read follows them. The file has ended, and the refill has failed, exactly as
+-- its last read says; else the buffer is full. What no contract can say: that the last read is what the system answered, how many reads came before it,
+-- and which bytes they gave.
 pub record RefilledFrom (before : List ℕ) (w : Window) (after : List ℕ) (r : Refilled) : Type 0 where
   pub front : r .window .from ≡ 0
   pub more : leftOf w ≤ r .window .to
   pub within : r .window .to ≤ length before
   pub kept : take (leftOf w) after ≡ unread before w
+  pub moved : Moved (r .last .room) (r .last .got)
+  pub asked : r .window .to + r .last .room ≡ length before + cameBy (r .last)
+  pub ended : r .window .ended ≡ endedBy (r .last)
+  pub failed : r .failed ≡ failedBy (r .last)
   pub full : r .failed ≡ false → r .window .ended ≡ false → r .window .to ≡ length before
+
+-- Two refills that one input allows agree where their last reads do: in the window, in whether they failed, and in the bytes that were left. Which bytes
+-- were read stays open.
+abbrev pub RefillsAgree : Type 0
+RefillsAgree = (before : List ℕ) (w : Window) (after after′ : List ℕ) (r r′ : Refilled)
+    → RefilledFrom before w after r → RefilledFrom before w after′ r′ → r .last ≡ r′ .last
+    → (r ≡ r′) × (take (leftOf w) after ≡ take (leftOf w) after′)

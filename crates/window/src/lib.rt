@@ -1,10 +1,10 @@
 // A window on a file: a bounded buffer that is refilled, so that a file of any length is taken a part at a time.
 ghost use mathlib.Core.Path.{_≡_};
-ghost use mathlib.Core.Bool.{true, false};
 ghost use Prim.Native.Nat.{_+_, _-_, _≤_};
 ghost use lib.ListN.{length, take, drop};
 ghost use lib.Seq.{sets};
-ghost use Rattle.window.specs.Window.{emptyWindow, Within, lowOf, usedOf, FilledFrom, RefilledFrom};
+ghost use Rattle.libc.specs.Io.{Moved};
+ghost use Rattle.window.specs.Window.{emptyWindow, Within, lowOf, usedOf, endedBy, failedBy, cameBy, FilledFrom, RefilledFrom};
 
 // The bytes of the buffer from `from` to `to` are read and not used up; `ended` says that the file has no more.
 pub struct Window {
@@ -13,23 +13,48 @@ pub struct Window {
     pub ended: bool,
 }
 
-// A window after a refill, and whether a read failed.
+// A read: how many bytes it had room for, and what it answered. No read is one that had room for none.
+pub struct Read {
+    pub room: usize,
+    pub got: isize,
+}
+
+// A window after a refill, whether a read failed, and the last read.
 pub struct Refilled {
     pub window: Window,
     pub failed: bool,
+    pub last: Read,
 }
 
-// What one read gives: how many bytes came, none at the end of the file, and whether it failed.
+// How many bytes a read gave, and the read.
 struct Came {
     count: usize,
-    failed: bool,
+    read: Read,
 }
 
-// What reading to the end of a buffer gives: how far it is filled, whether the file has ended, whether a read failed.
+// How far a buffer is filled, and the last read.
 struct Filled {
     to: usize,
-    ended: bool,
-    failed: bool,
+    last: Read,
+}
+
+impl Read {
+    // Whether the file has ended: a read with room gave no byte.
+    fn ended(self) -> bool
+        ensures { λ r. ⌜ r ≡ endedBy self ⌝ }
+    {
+        if self.room == 0 {
+            return false;
+        }
+        self.got == 0
+    }
+
+    // Whether the read failed.
+    fn failed(self) -> bool
+        ensures { λ r. ⌜ r ≡ failedBy self ⌝ }
+    {
+        self.got < 0
+    }
 }
 
 impl Window {
@@ -84,12 +109,14 @@ fn keep(buffer: &mut [u8], from: usize, to: usize)
 // One read behind the first `at` bytes, which stay.
 fn read_behind(fd: i32, buffer: &mut [u8], at: usize) -> Came
     requires { ⌜ at ≤ length (now buffer) ⌝ }
-    ensures { λ r. ⌜ (at + r .count ≤ length (now (buffer .entry))) × (take at (now (buffer .exit)) ≡ take at (now (buffer .entry))) ⌝ }
+    ensures { λ r. ⌜ (r .count ≡ cameBy (r .read)) × (r .read .room ≡ length (now (buffer .entry)) - at) × Moved (r .read .room) (r .read .got)
+        × (take at (now (buffer .exit)) ≡ take at (now (buffer .entry))) ⌝ }
 {
+    let room = buffer.len() - at;
     let got = libc::read(fd, &mut buffer[at..]);
     Came {
         count: io::count(got, &buffer[at..]),
-        failed: got < 0,
+        read: Read { room, got },
     }
 }
 
@@ -99,29 +126,16 @@ fn fill(fd: i32, buffer: &mut [u8], at: usize) -> Filled
     ensures { λ r. ⌜ FilledFrom (now (buffer .entry)) at (now (buffer .exit)) r ⌝ }
 {
     let mut to = at;
+    let mut last = Read { room: 0, got: 0 };
     while to < buffer.len() {
         let came = read_behind(fd, buffer, to);
-        if came.failed {
-            return Filled {
-                to,
-                ended: false,
-                failed: true,
-            };
-        }
+        last = came.read;
         if came.count == 0 {
-            return Filled {
-                to,
-                ended: true,
-                failed: false,
-            };
+            return Filled { to, last };
         }
         to += came.count;
     }
-    Filled {
-        to,
-        ended: false,
-        failed: false,
-    }
+    Filled { to, last }
 }
 
 // Moves what is left to the front of the buffer and reads more behind it.
@@ -133,12 +147,14 @@ pub fn refill(fd: i32, buffer: &mut [u8], window: Window) -> Refilled
     let to = window.to;
     keep(buffer, from, to);
     let filled = fill(fd, buffer, to - from);
+    let last = filled.last;
     Refilled {
         window: Window {
             from: 0,
             to: filled.to,
-            ended: filled.ended,
+            ended: last.ended(),
         },
-        failed: filled.failed,
+        failed: last.failed(),
+        last,
     }
 }

@@ -1,11 +1,18 @@
 -- `window::read_behind` meets its contract: only the part behind the first bytes is lent to the read. Assumes nothing.
 use Prim.Native.Nat.{_-_}
+use mathlib.Core.Path.{refl}
 use native.Mathlib.Omega.{arith}
-use lib.ListN.{length}
-use borrow.Rule.Slice.PartMut.{take-put}
+use mir.Syntax.{w64}
+use mir.Val.{toZ, ofZ}
+use lib.ListN.{length, take, drop}
+use borrow.Rule.Slice.PartMut.{putMid, take-put}
+use Rattle.window.proofs.LastRead.{clamped-as, moved-as}
 use borrow.Author.Needs.{needs}
 use Rattle.window.proofs.read_behind.Statement.{statement}
 use Rattle.window.proofs.read_behind.Tie as tie
+
+sub-room : tie.Need-sub-room
+sub-room c = search needs
 
 sub-read : tie.Need-sub-read
 sub-read c = search needs
@@ -37,12 +44,21 @@ same-length c = search needs
 returns : tie.Need-returns
 returns c =
     let a = c .before .before .before .before .before .before .before .before .args in
-    (omega (arith, c .count .ensures .0 .0), take-put (a .at) (length (a .buffer .now) - a .at) (a .buffer .now) (c .before .before .before .before .before .read .last .1 .0) (omega arith))
+    let room = length (a .buffer .now) - a .at in
+    let read = c .before .before .before .before .before .read in
+    let got = toZ w64 (ofZ w64 (read .result)) in
+    let after = putMid (a .at) room (a .buffer .now) (read .last .1 .0) in (
+      clamped-as (length (take (length after - a .at) (drop (a .at) after))) room got (c .count .ensures .1) (omega arith),
+      refl,
+      moved-as _ room (read .result) got (read .ensures) (omega arith) (search needs),
+      take-put (a .at) room (a .buffer .now) (read .last .1 .0) (omega arith),
+    )
 
 pub read-behind-spec : {M : Type 1} → statement M
 read-behind-spec =
     tie.close
     (tie.spec
+    sub-room
     sub-read
     part-read-start
     part-read-end
