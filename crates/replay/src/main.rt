@@ -123,9 +123,9 @@ fn piece(
     }
 }
 
-// Writes the rest of the text: with what was written before, it is what the replay prints for the bytes that were read (trace's proofs/Whole). No
-// contract can say what is read from a file or written to one: that the calls which read hand over the trace's next bytes, and that `written` writes
-// what the out buffer holds, is all that stands between the trace and the printed text.
+// Writes the rest of the text: with some text before it, it is what the replay prints for some bytes (`PrintedWhole`). In `replay_all`'s proof these are
+// the text that was written and the bytes that were read, but no contract can say what is read from a file or written to one. So a refill that drops the
+// bytes of a read, and a `make_room` that writes nothing, would meet every contract here: that they do not is seen in their few lines, and by the tests.
 fn finish(out: &[u8], at: usize)
     requires { ⌜ at ≤ length (now out) ⌝ }
     requires { ⌜ PrintedWhole (now out) at ⌝ }

@@ -68,7 +68,8 @@ pub record Replaying (buffer : List ℕ) (w : Window) (p : Progress) (out : List
   pub written : List ℕ
   pub replays : (rest : List ℕ) → (w .ended ≡ true → rest ≡ []) → Replays (read ++ rest) buffer w rest p (written ++ take at out)
 
--- At the end: what was written and what the out buffer holds is what the replay prints for the bytes that were read.
+-- At the end: what was written and what the out buffer holds is what the replay prints for the bytes that were read. Which bytes and which text these are
+-- is not said of a program: no contract can speak of what is read from a file or written to one.
 pub record PrintedWhole (out : List ℕ) (at : ℕ) : Type 0 where
   pub read : List ℕ
   pub written : List ℕ
