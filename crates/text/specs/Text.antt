@@ -16,7 +16,7 @@ pub record PutAt (before : List ℕ) (at : ℕ) (text after : List ℕ) (next : 
   pub place : next ≡ at + length text
   pub bytes : after ≡ sets before at text
 
--- Two results that one input allows agree, in the place and in every byte.
+-- OPEN-2: two results that one input allows agree, in the place and in every byte.
 abbrev pub PutsAgree : Type 0
 PutsAgree = (before : List ℕ) (at : ℕ) (text after after′ : List ℕ) (next next′ : ℕ)
     → PutAt before at text after next → PutAt before at text after′ next′ → (after ≡ after′) × (next ≡ next′)

@@ -18,11 +18,11 @@ use Rattle.table.specs.Table.{recordAt, answerAt, tableAfter, outAt}
 use Rattle.trace.specs.declared.Record.{Record}
 use Rattle.trace.specs.declared.Begin.{Begin}
 
--- "the out buffer has 1,000 bytes"
+-- TRACE-6: the bytes of the out buffer that each call is lent
 abbrev pub room : ℕ
 room = 1000
 
--- "Begin's bytes are role 1 (0 initiator, 1 responder), N 2, T_max 4, E 4, T_start 4, T_off 4, limit 1, first number 2, period 4"
+-- TRACE-3: the fields of begin's bytes, from the role (0 initiator, 1 responder) to the period
 abbrev pub beginWidths : List ℕ
 beginWidths = 1 ∷ 2 ∷ 4 ∷ 4 ∷ 4 ∷ 4 ∷ 1 ∷ 2 ∷ 4 ∷ []
 
@@ -42,7 +42,7 @@ beginNamed fields = record {
   period = getD fields 8 0;
 }
 
--- "other sizes or roles give 104": bytes of another size hold no role, so that 104 comes in its place in begin's order
+-- TRACE-4: bytes of another size hold no role, so that 104 comes in its place in begin's order
 abbrev pub noBegin : Begin
 noBegin = record { role = 255; settings = noSettings; first = 0; period = 0 }
 
@@ -54,7 +54,7 @@ beginOf bytes =
 abbrev pub beginWith : Connection → Count → Begin → Outcome
 beginWith c now b = beginOutcome c (b .role) (b .settings) (b .first) (b .period) now room
 
--- "other sizes or roles give 104", after 101 and 103 in begin's order
+-- TRACE-4: another size or role is answered 104, after 101 and 103
 abbrev pub OthersGive104 : Type 0
 OthersGive104 = (c : Connection) (now : Count) (bytes : List ℕ) → (length bytes ≡ widthOf beginWidths → 1 < getD (fieldsOf beginWidths bytes 0) 0 0)
     → beginWith c now (beginOf bytes) ≡ refused (
@@ -62,7 +62,8 @@ OthersGive104 = (c : Connection) (now : Count) (bytes : List ℕ) → (length by
     when not (eqb (c .phase) closed) answer 103 else
     104) c
 
--- kind 1 begin, 2 receive, 3 send, 4 tick, 5 close: what the call comes to on its slot's record; "a tick's or close's bytes are ignored"
+-- TRACE-2: what the call comes to on its slot's record: kind 1 begin, 2 receive, 3 send, 4 tick, 5 close; TRACE-7: a tick and a close do not look at the
+-- bytes
 unfoldable pub outcomeOf : Connection → Record → List ℕ → Outcome
 outcomeOf c r bytes =
     when eqb (r .kind) 1 answer beginWith c (r .now) (beginOf bytes) else

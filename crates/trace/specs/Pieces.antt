@@ -66,7 +66,7 @@ pub record AdvancedTo (buffer : List ℕ) (p : Progress) (w : Window) (lent befo
   pub within : r .next ≤ length before
   pub counted : r .progress .count + leftOf (r .window) ≤ p .count + leftOf w
 
--- Two results that one input allows agree: in how far the replay is, in the window, in the place, and in every byte of both out buffers.
+-- OPEN-2: two results that one input allows agree: in how far the replay is, in the window, in the place, and in every byte of both out buffers.
 abbrev pub AdvancesAgree : Type 0
 AdvancesAgree = (buffer : List ℕ) (p : Progress) (w : Window) (lent before : List ℕ) (at : ℕ) (lentAfter lentAfter′ after after′ : List ℕ) (r r′ : Advanced)
     → AdvancedTo buffer p w lent before at lentAfter after r → AdvancedTo buffer p w lent before at lentAfter′ after′ r′

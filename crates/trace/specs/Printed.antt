@@ -5,17 +5,17 @@ use mathlib.Core.List.{List, _++_}
 use Rattle.text.specs.Ascii.{ascii}
 use Rattle.text.specs.Text.{mostDigits, decimalOf}
 
+-- TRACE-13: the first line, a line for each record, and the last, which counts them
 abbrev pub heading : List ℕ
 heading = ascii "slot answer\n"
 
--- slot answer
 abbrev pub lineOf : ℕ → ℕ → List ℕ
 lineOf slot number = decimalOf slot ++ ascii " " ++ decimalOf number ++ ascii "\n"
 
+-- TRACE-12
 abbrev pub badLine : List ℕ
 badLine = ascii "bad\n"
 
--- "the last line counts the records before it"
 abbrev pub endOf : ℕ → List ℕ
 endOf count = ascii "end " ++ decimalOf count ++ ascii "\n"
 

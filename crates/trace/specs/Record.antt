@@ -12,7 +12,7 @@ use Rattle.trace.specs.declared.Record.{Record}
 use Rattle.trace.specs.declared.Next.{Next}
 use Rattle.trace.specs.declared.Next.the-variants.{End, Bad, Whole}
 
--- "Each record, big-endian: mark 52 32, kind 1 (1 begin, 2 receive, 3 send, 4 tick, 5 close), slot 1, now 4, length 2, bytes."
+-- TRACE-1: mark, kind, slot, now and length, big-endian (FIELD-1); the bytes follow them
 abbrev pub widths : List ℕ
 widths = 2 ∷ 1 ∷ 1 ∷ 4 ∷ 2 ∷ []
 
@@ -48,19 +48,19 @@ mostLength = 1000
 abbrev pub mostRecord : ℕ
 mostRecord = fieldsSize + mostLength
 
--- "A wrong mark,
+-- TRACE-8
 unfoldable pub wrongMark : Record → Bool
 wrongMark r = not (eqb (r .mark) 0x5232)
 
--- unknown kind,
+-- TRACE-9
 unfoldable pub unknownKind : Record → Bool
 unknownKind r = (r .kind) outside 1 to 5
 
--- length over 1,000
+-- TRACE-10
 unfoldable pub lengthOver : Record → Bool
 lengthOver r = ltb mostLength (r .length)
 
--- or cut record"
+-- TRACE-11: the end of the trace cuts it
 unfoldable pub cutRecord : List ℕ → Record → Bool
 cutRecord s r = ltb (length s) (sizeOf r)
 

@@ -15,7 +15,7 @@ use Rattle.trace.specs.declared.Next.{Next}
 use Rattle.trace.specs.declared.Next.the-variants.{End, Bad, Whole}
 use Rattle.trace.specs.declared.Progress.{Progress}
 
--- "The table has 64 closed slots at first"
+-- TRACE-5: 64 closed slots
 abbrev pub startOf : Progress
 startOf = record { table = replicate 64 released; count = 0; stopped = false }
 
@@ -39,7 +39,8 @@ replays p r bytes = record {
   lent = outTo (p .table) r bytes;
 }
 
--- at the end of the trace the last line; a bad record "prints `bad` and stops", and "after `bad` the last line counts the records before it"
+-- at the end of the trace the last line; TRACE-12: at a bad record the line `bad` and no turn after it; TRACE-14: the last line behind it, which counts the
+-- records before it
 abbrev pub turnOn : Progress → Next → List ℕ → Turn
 turnOn p End rest = stops p (endOf (p .count))
 turnOn p Bad rest = stops p (badLine ++ endOf (p .count))

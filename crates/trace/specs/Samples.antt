@@ -8,7 +8,7 @@ use Rattle.trace.specs.Record.{widths}
 use Rattle.trace.specs.Replay.{replayOf}
 
 pub record Samples : Type 0 where
-  -- "One tick on slot 0 prints, whole"
+  -- TRACE-13: one tick on slot 0
   pub one-tick : replayOf (rowOf widths (0x5232 ∷ 4 ∷ 0 ∷ 0 ∷ 0 ∷ [])) ≡ ascii "slot answer\n0 102\nend 1\n"
-  -- "An empty file prints the first line and `end 0`."
+  -- TRACE-15: an empty file
   pub empty : replayOf [] ≡ ascii "slot answer\nend 0\n"

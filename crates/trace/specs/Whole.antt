@@ -36,7 +36,7 @@ pub data Replays (trace : List ℕ) : List ℕ → Window → List ℕ → Progr
       → (room : ℕ) (lent : List ℕ) → Replays trace buffer (advanceOf room buffer (reachOf p w lent) .window) toRead
       (advanceOf room buffer (reachOf p w lent) .progress) (printed ++ advanceOf room buffer (reachOf p w lent) .text)
 
--- Where such a replay has stopped, all that was printed is what the replay prints for the whole trace.
+-- TRACE-16: where such a replay has stopped, all that was printed is what the replay prints for the whole trace.
 abbrev pub PiecesAsWhole : Type 0
 PiecesAsWhole = (trace buffer : List ℕ) (w : Window) (toRead : List ℕ) (p : Progress) (printed : List ℕ)
     → Replays trace buffer w toRead p printed → p .stopped ≡ true → printed ≡ replayOf trace

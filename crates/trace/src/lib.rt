@@ -75,7 +75,7 @@ pub struct Advanced {
 }
 
 impl Progress {
-    // 64 closed slots.
+    // TRACE-5: 64 closed slots.
     pub fn start() -> Progress
         ensures { λ r. ⌜ r ≡ startOf ⌝ }
     {
@@ -135,7 +135,7 @@ fn begin_of(bytes: &[u8]) -> Begin
     }
 }
 
-// A wrong mark, unknown kind or length over 1,000.
+// TRACE-8, TRACE-9, TRACE-10.
 fn bad_fields(r: Record) -> bool
     ensures { λ b. ⌜ b ≡ wrongMark r || unknownKind r || lengthOver r ⌝ }
 {
