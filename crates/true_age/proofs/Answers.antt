@@ -115,7 +115,7 @@ module _ (c : Connection) (now : Count) (h : Header) (t : Tail) (o : c .phase �
   -- ---- the fault goes by the age
 
   -- open takes type 6
-  is-data : Expects (c .phase) (h .kind) → h .kind ≡ 6
+  pub is-data : Expects (c .phase) (h .kind) → h .kind ≡ 6
   is-data (Expects.x2 p k) = let q : ⊥ = omega arith in absurd q
   is-data (Expects.x4 p k) = let q : ⊥ = omega arith in absurd q
   is-data (Expects.x1 p k) = let q : ⊥ = omega arith in absurd q

@@ -15,6 +15,7 @@ use Rattle.true_age.specs.History.{Ours, Written, Judged}
 use Rattle.true_age.specs.Claim.{OwnSetUp, transit, trueAge, Bounds, AgeClaim, Demand3}
 use Rattle.true_age.proofs.TrueAge.{age-bounds, fresh-bound, late-bound, future-bound}
 use Rattle.true_age.proofs.Answers.{ByAge, answer-by-age}
+use Rattle.true_age.proofs.Delivered.{hands-up}
 use Rattle.true_age.proofs.History.{one-written, open-set-up}
 
 module _ (W : World) (began : W .Moment) (j role : ℕ) (settings : Settings) (log : List (Ours W)) (t : W .Moment) (c : Connection)
@@ -65,4 +66,5 @@ demand-3 W began j role settings log t c x o u next band message room h s w m =
           age-claim W began j role settings log t c (k .0) (k .1) u next band h m (receiveOutcome c (countOf (W .ours u)) message room .answer)
           (subst (λ (s : Settings). ByAge c (verdictOf (messageAge c (countOf (W .ours u)) h) (s .«t_max»)) (receiveOutcome c (countOf (W .ours u)) message room .answer)) (k .0)
           (answer-by-age c (countOf (W .ours u)) h s o message room w));
+      hands-up = hands-up c (countOf (W .ours u)) message room;
     }

@@ -1,4 +1,5 @@
 pub mod TrueAge
 pub mod Answers
+pub mod Delivered
 pub mod History
 pub mod Demand3

@@ -2,14 +2,15 @@
 use Prim.Native.Nat.{ℕ, _+_, _-_, _^_, _<_}
 use mathlib.Core.Path.{_≡_}
 use mathlib.Core.Bool.{true}
-use mathlib.Core.List.{List}
+use mathlib.Core.List.{List, []}
 use lib.Dec.{eqb}
+use lib.ListN.{length}
 use lib.IntN.{ℤ, pos, _+ℤ_, _-ℤ_}
 use lib.Signed.{_≤ℤ_}
 use Rattle.rules.specs.Rows.{when_answer_else_}
 use Rattle.clock.specs.Clock.{verdictOf}
 use Rattle.clock.specs.declared.Verdict.the-variants.{Future, Late, Fresh}
-use Rattle.message.specs.Read.{parsedOf}
+use Rattle.message.specs.Read.{parsedOf, dataOf}
 use Rattle.message.specs.declared.Header.{Header}
 use Rattle.message.specs.declared.Tail.{Tail}
 use Rattle.message.specs.declared.Parsed.{Parsed}
@@ -18,7 +19,7 @@ use Rattle.connection.specs.declared.Connection.{Connection}
 use Rattle.connection.specs.Connection.{opened}
 use Rattle.faults.specs.Faults.{messageAge}
 use Rattle.judging.specs.Judging.{offsetBetween}
-use Rattle.calls.specs.Calls.{receiveOutcome}
+use Rattle.calls.specs.Calls.{receiveOutcome, deliveredOf}
 use Rattle.calls.specs.Promises.{deliversTo}
 use Rattle.true_age.specs.Clocks.{World, InBand, countOf}
 use Rattle.true_age.specs.History.{Ours, Written, Judged, History}
@@ -65,6 +66,12 @@ pub record AgeClaim (settings : Settings) (true-age j d : ℕ) (age : ℤ) (c : 
   -- and 206 only when true age + E + d is under J
   pub future : k ≡ 206 → true-age + settings .e + d < j
 
+-- What the caller gets of a message that the record c answers with k and so many delivered bytes: with a 0 or a 204 of an open record all its bytes from
+-- 15 on, with any other answer none.
+pub record HandsUp (c : Connection) (message : List ℕ) (k delivered : ℕ) : Type 0 where
+  pub count : delivered ≡ (when deliversTo c k answer length (dataOf message) else 0)
+  pub bytes : deliveredOf message delivered ≡ (when deliversTo c k answer dataOf message else [])
+
 -- demand 3, of the next receive on an open record, at a moment u: m is what is supposed of its message
 pub record Claim (W : World) (began : W .Moment) (j role : ℕ) (settings : Settings) (log : List (Ours W)) (t : W .Moment) (c : Connection)
     (u : W .Moment) (message : List ℕ) (room : ℕ) (h : Header) (m : Judged W began log u h) : Type 0 where
@@ -75,6 +82,8 @@ pub record Claim (W : World) (began : W .Moment) (j role : ℕ) (settings : Sett
   pub age : (first : Ours W) → Written W 0 first log → trueAge W (m .sent) u + settings .e + j + transit W first < 2 ^ 31
       → AgeClaim settings (trueAge W (m .sent) u) j (transit W first) (messageAge c (countOf (W .ours u)) h)
       c (receiveOutcome c (countOf (W .ours u)) message room .answer)
+  -- bytes go up with no other answer
+  pub hands-up : HandsUp c message (receiveOutcome c (countOf (W .ours u)) message room .answer) (receiveOutcome c (countOf (W .ours u)) message room .delivered)
 
 -- the next receive gets our count as its now, at a moment no earlier than the last call; any room, and any bytes that are a message
 abbrev pub Demand3 : Type 1
