@@ -27,17 +27,20 @@ use Rattle.calls.proofs.Delivery.{delivers-bytes-from-15}
 use Rattle.true_age.specs.Claim.{HandsUp}
 use Rattle.true_age.proofs.Answers.{is-data}
 
+pub other-delivers-none : (c : Connection) (k : ℕ) → eqb k 0 ≡ false → eqb k 204 ≡ false → deliversTo c k ≡ false
+unfolding deliversTo
+other-delivers-none c k z g = rw (z, g) (go (eqb (c .phase) opened))
+  where
+    go : (p : Bool) → p && false ≡ false
+    go true = refl
+    go false = refl
+
 module _ (c : Connection) (now : Count) (message : List ℕ) where
   abbrev Counts : Outcome → Type 0
   Counts o = o .delivered ≡ (when deliversTo c (o .answer) answer length (dataOf message) else 0)
 
   none-but : (k : ℕ) → eqb k 0 ≡ false → eqb k 204 ≡ false → 0 ≡ (when deliversTo c k answer length (dataOf message) else 0)
-  unfolding deliversTo
-  none-but k z g = rw (z, g) (go (eqb (c .phase) opened))
-    where
-      go : (p : Bool) → 0 ≡ (when p && false answer length (dataOf message) else 0)
-      go true = refl
-      go false = refl
+  none-but k z g = rw (other-delivers-none c k z g) refl
 
   in-set-up : (k : ℕ) → eqb (c .phase) opened ≡ false → 0 ≡ (when deliversTo c k answer length (dataOf message) else 0)
   unfolding deliversTo
