@@ -1,4 +1,4 @@
--- Six premises of demand 3 missed one at a time, by computation.
+-- The premises of demand 3 missed one at a time, by computation.
 -- Assumes nothing.
 use Prim.Native.Nat.{ℕ, _+_, _-_, _≤_}
 use mathlib.Core.Path.{_≡_, refl, ap}
@@ -6,7 +6,6 @@ use native.Mathlib.Omega.{arith}
 use lib.Dec.{lit<, lit≤}
 use lib.IntN.{pos, negℤ, _+ℤ_}
 use Rattle.rules.proofs.Integers.{sum-is, le-is}
-use Rattle.clock.specs.declared.Count.{Count}
 use Rattle.rules.specs.Modulo.{modulo}
 use Rattle.clock.specs.Clock.{wrapped, centred, goesBack, waitOf, ageOf, verdictOf, offsetRead}
 use Rattle.number.specs.Number.{distanceOf, nextOf}
@@ -25,16 +24,15 @@ use Rattle.worked_histories.specs.Worlds.{StaysInBand, Runs, arrivals, w
 use Rattle.worked_histories.specs.Histories.{room}
 use Rattle.worked_histories.specs.SetUp.{answ1, est, atInitiator, offsetStart}
 use Rattle.worked_histories.specs.Initiator.{slowPeers, settings200}
-use Rattle.worked_histories.specs.PremisesMissed.{afterTick, driftingPeers, falseAnsw1, asReported, openAsReported, lagging, asCalled, openAsCalled, EachIsNeeded}
+use Rattle.worked_histories.specs.CallsMissed.{driftingPeers, asReported, openAsReported}
+use Rattle.worked_histories.specs.PremisesMissed.{afterTick, falseAnsw1, lagging, asCalled, openAsCalled, EachIsNeeded}
 use Rattle.worked_histories.proofs.Worlds.{past-most, responders-run, initiators-stand, standing-before-runs, gaining-runs, at-least, at-most}
 use Rattle.worked_histories.proofs.Histories.{type-4-on, Reaches, judges}
 use Rattle.worked_histories.proofs.SetUp.{initiator-set-up}
 use Rattle.worked_histories.proofs.Initiator.{slow-runs, slow-band}
+use Rattle.worked_histories.proofs.CallsMissed.{no-drift, drifting-runs, number, another-record, begun-after, taken-before-sent, start-as-reported, opens-as-reported, report-of-another}
 
 -- ---- the clocks
-
-drifting-runs : Runs driftingPeers
-drifting-runs = gaining-runs 2000 3000 responders responders-run
 
 standing-before-band : StaysInBand (atInitiator standingBefore standing-before-runs) 1000 0
 standing-before-band judged =
@@ -42,15 +40,6 @@ standing-before-band judged =
       floor = pos 850;
       over = λ t h _. at-least t (standingBefore t) 850 0 (omega arith);
       under = λ t h _. at-most t (standingBefore t) 850 0 (omega arith);
-    }
-
--- whenever our messages arrive
-no-drift : (arrived : ℕ → ℕ) → StaysInBand (worldOf initiators responders arrived (λ t u h. h) responders-run) 1000 0
-no-drift arrived judged =
-    record {
-      floor = pos 850;
-      over = λ t h _. at-least t (responders t) 850 0 (omega arith);
-      under = λ t h _. at-most t (responders t) 850 0 (omega arith);
     }
 
 now-runs : Runs lagging
@@ -69,9 +58,6 @@ called-band judged =
 
     under : (t p : ℕ) → 1000 ≤ t → t - p + 0 ≤ 850 + (t - 850)
     under t p h = omega arith
-
-abbrev number : Count → ℕ
-number c = c .0
 
 -- ---- each premise missed
 
@@ -116,6 +102,8 @@ each-is-needed =
         since-missed = λ h. omega arith;
         claim-fails = λ claim. claim .handed-up refl .le;
       };
+      taken-before-sent = taken-before-sent;
+      begun-after = begun-after;
       false-stamp = record {
         runs = responders-run;
         band = no-drift (arrivals 1020 1090 1120);
@@ -131,12 +119,13 @@ each-is-needed =
         runs = responders-run;
         band = no-drift (arrivals 1000 1090 1120);
         message = judges opens refl
-            (lit≤ tt) (lit≤ tt) (lit≤ tt) (dataTail 1) refl (lit< tt) refl first (earlier (earlier newest)) refl refl;
+            (lit≤ tt) (lit≤ tt) (lit≤ tt) (dataTail 1) refl (lit< tt) refl (start-as-reported 1000) (earlier (earlier newest)) refl refl;
         arrival-missed = λ e. let f : _≡_ {A = ℕ} 150 170 = ap number e in omega arith;
         common-is = refl;
         numbers-are = refl;
         claim-fails = λ claim. claim .handed-up refl .le;
       };
+      report-of-another = report-of-another;
       false-now = record {
         now-runs = now-runs;
         runs = responders-run;
@@ -148,27 +137,22 @@ each-is-needed =
         true-age-is = refl;
         claim-fails = λ claim. claim .handed-up refl .le;
       };
+      another-record = another-record;
     }
   where
     ticks : Reaches (atInitiator slowPeers slow-runs) 1000 0 settings200 (afterTick slow-runs)
     ticks = ticked (initiator-set-up slowPeers slow-runs refl refl refl settings200 refl newest) 2000000000 (lit≤ tt)
 
-    first : Ours (asReported responders-run)
-    first = record { at = 1000; header = startHeader 7 (countOf 1000) }
-
-    opens : Reaches (asReported responders-run) 1000 0 settings200 (openAsReported responders-run)
+    opens : Reaches (asReported 1000 responders-run) 1000 0 settings200 (openAsReported 1000 falseAnsw1 responders-run)
     opens =
-        received
-        (received (begun released 7 50 1000 room (λ _. lit≤ tt) refl) 1080 (lit≤ tt) falseAnsw1 room
-        (λ _ _. record {
+        opens-as-reported 1000 falseAnsw1
+        (record {
           sent = 1050;
           since = lit≤ tt;
           onward = lit≤ tt;
           stamped = refl;
-          reports = λ _. record { which = 0; ours = first; of-ours = newest; onward = lit≤ tt; echoes = refl; reported = refl };
-        }))
-        1110 (lit≤ tt) est room
-        (λ _ _. record { sent = 1095; since = lit≤ tt; onward = lit≤ tt; stamped = refl; reports = type-4-on 4 (lit< tt) })
+          reports = λ _. record { which = 0; ours = start-as-reported 1000; of-ours = newest; onward = lit≤ tt; echoes = refl; reported = refl };
+        })
 
     first-as-called : Ours (asCalled now-runs responders-run)
     first-as-called = record { at = 1000; header = startHeader 7 (countOf 1000) }

@@ -18,9 +18,10 @@ use Rattle.judging.specs.Judging.{startTaken, answ2Taken, endTaken, dataTaken, 
 use Rattle.calls.specs.Calls.{bad, closeRefusal, tickRefusal, receiveRefusal, beginRefusal, timed, expired, receiveOutcome, beginOutcome}
 use Rattle.true_age.specs.History.{newest, earlier}
 use Rattle.worked_histories.specs.Worlds.{StaysInBand, Runs, initiators, responders, past}
-use Rattle.worked_histories.specs.SetUp.{offsetAnsw1}
-use Rattle.worked_histories.specs.Responder.{peers, settings, freshMessage, gapMessage, lateMessage, futureMessage, world, afterEnd, afterFresh, afterGap, afterLate, afterFuture, ResponderMeets}
-use Rattle.worked_histories.proofs.Worlds.{past-most, responders-run, gaining-runs, at-least, at-most}
+use Rattle.worked_histories.specs.SetUp.{atResponder, offsetAnsw1}
+use Rattle.worked_histories.specs.Initiator.{settings200}
+use Rattle.worked_histories.specs.Responder.{peers, settings, freshMessage, gapMessage, lateMessage, futureMessage, world, afterEnd, afterFresh, afterGap, afterLate, afterFuture, ResponderMeets, slowPeers, ResponderLateReached}
+use Rattle.worked_histories.proofs.Worlds.{past-most, responders-run, initiators-stand, gaining-runs, at-least, at-most}
 use Rattle.worked_histories.proofs.Histories.{Reaches, goes-on, judges}
 use Rattle.worked_histories.proofs.SetUp.{responder-set-up}
 
@@ -74,3 +75,33 @@ responder-meets =
 
     takes-future : Reaches (world responders-run runs) 1000 1 settings (afterFuture responders-run runs)
     takes-future = goes-on (afterLate responders-run runs) takes-late refl 2124 (lit≤ tt) futureMessage
+
+-- ---- the peer's clock stands still
+
+slow-runs : Runs slowPeers
+slow-runs = initiators-stand 1145 1205
+
+slow-band : StaysInBand (atResponder slowPeers responders-run slow-runs) 1000 60
+slow-band judged =
+    record {
+      floor = negℤ (pos 850);
+      over = λ t h _. at-least (responders t) (slowPeers t) 0 850 (over t (past 1145 1205 t) h);
+      under = λ t h _. at-most (responders t) (slowPeers t) 0 790 (under t (past 1145 1205 t) h (past-most 1145 1205 t));
+    }
+  where
+    over : (t p : ℕ) → 1000 ≤ t → 0 + (t - p) ≤ t - 850 + 850
+    over t p h = omega arith
+
+    under : (t p : ℕ) → 1000 ≤ t → p ≤ 60 → t - 850 + 790 ≤ 0 + (t - p)
+    under t p h k = omega arith
+
+pub responder-late-reached : ResponderLateReached
+unfolding modulo wrapped centred goesBack waitOf ageOf verdictOf distanceOf nextOf fieldOf tableOf lists laterStamp checkOver wholeOf parsedOf _outside_to_ outOfRange unsound expectationOf numberJudged dropped tooFar gap wrongEcho checkFailed ageNumber faultOf startTaken answ2Taken endTaken takenOf raises openFollowsOf followsOf stepOf bad closeRefusal tickRefusal receiveRefusal beginRefusal timed expired receiveOutcome beginOutcome
+responder-late-reached =
+    record {
+      ours-runs = responders-run;
+      runs = slow-runs;
+      band = slow-band;
+      late = judges (responder-set-up slowPeers responders-run slow-runs refl refl refl refl settings200 refl newest) refl
+          (lit≤ tt) (lit≤ tt) (lit≤ tt) (dataTail 1) refl (lit< tt) refl (offsetAnsw1 slowPeers responders-run slow-runs) (earlier newest) refl refl;
+    }

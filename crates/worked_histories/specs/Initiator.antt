@@ -90,6 +90,10 @@ settings200 = record { n = 3; «t_max» = 200; e = 10; «t_start» = 100; «t_of
 abbrev pub band60 : Common
 band60 = record { e = 10; t-max = 200; j = 60; d = 20; oldest = pos 230 }
 
+-- the same with clocks that do not drift
+abbrev pub band0 : Common
+band0 = record { e = 10; t-max = 200; j = 0; d = 20; oldest = pos 170 }
+
 -- stamp 290, sent at 1200
 abbrev pub slowMessage : List ℕ
 slowMessage = toInitiator 22 0x01 0x22

@@ -1,5 +1,6 @@
--- Six premises of demand 3, on the bound, the band, the sending, the stamp, the arrival and the now, are missed one at a time: the others are met, and
--- what is claimed of the message fails. The set-up is the initiator's each time, with E 10, T_max 200 and d 20.
+-- The premises of demand 3 are missed one at a time: the others are met, and what is claimed of the message fails. The set-up is the initiator's each time,
+-- with E 10 and T_max 200. Here the bound, the band, the sending, the stamp, the arrival and the now; in CallsMissed the record, the set-up's beginning, the
+-- taking and the message reported.
 use Prim.Native.Nat.{ℕ, _+_, _^_, _<_}
 use mathlib.Core.Path.{_≡_}
 use mathlib.Core.List.{List, [], _∷_}
@@ -10,7 +11,8 @@ use Rattle.true_age.specs.Claim.{trueAge}
 use Rattle.worked_histories.specs.Worlds.{Runs, StaysInBand, arrivals, worldOf, initiators, responders, gaining, standing, standingBefore}
 use Rattle.worked_histories.specs.Histories.{Place, begin, receive, tick, Common, commonOf, Numbers, numbersOf, Judges, Claimed, truly_computed_answers_between_and_}
 use Rattle.worked_histories.specs.SetUp.{answ1, est, toInitiator, atInitiator, offsetStart, initiatorOpen}
-use Rattle.worked_histories.specs.Initiator.{slowPeers, settings200, band60, slowMessage}
+use Rattle.worked_histories.specs.Initiator.{slowPeers, settings200, band60, band0, slowMessage}
+use Rattle.worked_histories.specs.CallsMissed.{driftingPeers, driftedMessage, asReported, openAsReported, reportedMessage, AnotherRecord, BegunAfter, TakenBeforeSent, ReportOfAnother}
 
 -- ---- "with true age + E + J + d below 2^31"
 
@@ -46,14 +48,6 @@ pub record PastTheBound : Type 0 where
 
 -- ---- "the two counts' difference has stayed inside a band J ticks wide"
 
--- the peer's clock gains 1,000 ticks from 2000 to 3000: the difference falls from 850 to -150
-abbrev pub driftingPeers : ℕ → ℕ
-driftingPeers = gaining 2000 3000 responders
-
--- stamp 3150, sent at 3000
-abbrev pub driftedMessage : List ℕ
-driftedMessage = toInitiator 22 0x0C 0x4E
-
 abbrev pub driftedNumbers : Numbers
 driftedNumbers = truly 1000 computed pos 30 answers 0 between pos 970 and pos 1090
 
@@ -65,10 +59,7 @@ pub record OutsideTheBand : Type 0 where
       driftedMessage band60 driftedNumbers
   pub claim-fails : ¬ (Claimed settings200 (initiatorOpen driftingPeers runs settings200 .c) band60 driftedNumbers)
 
--- ---- the other four are missed with J 0: none handed up is truly older than 170
-
-abbrev pub band0 : Common
-band0 = record { e = 10; t-max = 200; j = 0; d = 20; oldest = pos 170 }
+-- ---- the others are missed with J 0: none handed up is truly older than 170
 
 -- ---- "was sent by it on this connection once its set-up had begun"
 
@@ -132,20 +123,8 @@ falseAnsw1 =
     ∷ 0x00 ∷ 0x00 ∷ 0x00 ∷ 0x96
     ∷ 0x00 ∷ 0x00 ∷ 0x00 ∷ 0x32 ∷ []
 
-module _ (runs : Runs responders) where
-  -- the world as reported: OffsetStart arrives at 1000, as soon as it is written
-  abbrev pub asReported : World
-  asReported = worldOf initiators responders (arrivals 1000 1090 1120) (λ t u h. h) runs
-
-  abbrev pub openAsReported : Place asReported
-  openAsReported = receive asReported (receive asReported (begin asReported 0 settings200 7 50 1000) 1080 falseAnsw1) 1110 est
-
 abbrev pub reportedBand0 : Common
 reportedBand0 = record { e = 10; t-max = 200; j = 0; d = 0; oldest = pos 190 }
-
--- stamp 350, sent at 1200
-abbrev pub reportedMessage : List ℕ
-reportedMessage = toInitiator 22 0x01 0x5E
 
 abbrev pub reportedNumbers : Numbers
 reportedNumbers = truly 190 computed pos 200 answers 0 between pos 200 and pos 200
@@ -156,13 +135,13 @@ trueNumbers = truly 190 computed pos 200 answers 0 between pos 220 and pos 220
 -- OffsetStart truly arrives at 1020, so that d is 20: a message truly 190 ticks old is handed up, where 170 may pass
 pub record FalseArrival : Type 0 where
   pub runs : Runs responders
-  pub band : StaysInBand (asReported runs) 1000 0
+  pub band : StaysInBand (asReported 1000 runs) 1000 0
   -- all is as supposed in the world as reported, which differs from the true one in this arrival alone
-  pub message : Judges (asReported runs) 1000 1000 0 settings200 (openAsReported runs) 1200 1390 reportedMessage reportedBand0 reportedNumbers
+  pub message : Judges (asReported 1000 runs) 1000 1000 0 settings200 (openAsReported 1000 falseAnsw1 runs) 1200 1390 reportedMessage reportedBand0 reportedNumbers
   pub arrival-missed : ¬ (headerOf falseAnsw1 .arrival ≡ countOf (responders (atInitiator responders runs .arrived 0)))
   pub common-is : commonOf (atInitiator responders runs) settings200 0 (offsetStart responders runs) ≡ band0
-  pub numbers-are : numbersOf (atInitiator responders runs) band0 (openAsReported runs .c) 1200 1390 (headerOf reportedMessage) reportedMessage ≡ trueNumbers
-  pub claim-fails : ¬ (Claimed settings200 (openAsReported runs .c) band0 trueNumbers)
+  pub numbers-are : numbersOf (atInitiator responders runs) band0 (openAsReported 1000 falseAnsw1 runs .c) 1200 1390 (headerOf reportedMessage) reportedMessage ≡ trueNumbers
+  pub claim-fails : ¬ (Claimed settings200 (openAsReported 1000 falseAnsw1 runs .c) band0 trueNumbers)
 
 -- ---- "each call from begin on gets our count as its now"
 
@@ -203,12 +182,16 @@ pub record FalseNow : Type 0 where
   pub true-age-is : trueAge (atInitiator responders runs) 1120 1340 ≡ ourNumbers .true-age
   pub claim-fails : ¬ (Claimed settings200 (openAsCalled now-runs runs .c) band0 ourNumbers)
 
--- none of the six is idle
+-- none of them is idle
 pub record EachIsNeeded : Type 0 where
   pub at-the-bound : AtTheBound
   pub past-the-bound : PastTheBound
   pub outside-the-band : OutsideTheBand
   pub sent-before : SentBefore
+  pub taken-before-sent : TakenBeforeSent
+  pub begun-after : BegunAfter
   pub false-stamp : FalseStamp
   pub false-arrival : FalseArrival
+  pub report-of-another : ReportOfAnother
   pub false-now : FalseNow
+  pub another-record : AnotherRecord

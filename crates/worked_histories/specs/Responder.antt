@@ -1,12 +1,13 @@
--- The premises of demand 3 are met at a responder, with every answer that goes by the age. Its begin is earlier than the set-up.
+-- The premises of demand 3 are met at a responder, with every answer that goes by the age, and its bounds are reached. Its begin is earlier than the set-up.
 use Prim.Native.Nat.{ℕ}
 use mathlib.Core.List.{List}
 use lib.IntN.{pos, negℤ}
 use Rattle.connection.specs.declared.Settings.{Settings}
 use Rattle.true_age.specs.Clocks.{World}
-use Rattle.worked_histories.specs.Worlds.{Runs, StaysInBand, initiators, responders, gaining}
+use Rattle.worked_histories.specs.Worlds.{Runs, StaysInBand, initiators, responders, gaining, standing}
 use Rattle.worked_histories.specs.Histories.{Place, receive, Common, Judges, truly_computed_answers_between_and_}
 use Rattle.worked_histories.specs.SetUp.{toResponder, atResponder, responderOpen}
+use Rattle.worked_histories.specs.Initiator.{settings200}
 
 -- the peer's clock gains 60 ticks from 2000 to 2060: the difference falls from -850 to -910
 abbrev pub peers : ℕ → ℕ
@@ -74,3 +75,23 @@ pub record ResponderMeets : Type 0 where
   -- the oldest that can be handed up: T_max - E + J - d
   pub oldest : Judges (world ours-runs runs) 1000 1000 1 settings (afterFuture ours-runs runs) 2200 2275 oldestMessage common
       (truly 75 computed pos 50 answers 204 between pos 50 and pos 170)
+
+-- ---- the peer's clock stands still from 1145 to 1205: the difference rises from -850 to -790
+
+abbrev pub slowPeers : ℕ → ℕ
+slowPeers = standing 1145 1205 initiators
+
+abbrev pub slowBand60 : Common
+slowBand60 = record { e = 10; t-max = 200; j = 60; d = 30; oldest = pos 220 }
+
+-- stamp 1240, sent at 1300
+abbrev pub slowMessage : List ℕ
+slowMessage = toResponder 10 0x04 0xD8
+
+pub record ResponderLateReached : Type 0 where
+  pub ours-runs : Runs responders
+  pub runs : Runs slowPeers
+  pub band : StaysInBand (atResponder slowPeers ours-runs runs) 1000 60
+  -- true age + E + J + d is T_max + 1, and the age is its most
+  pub late : Judges (atResponder slowPeers ours-runs runs) 1000 1000 1 settings200 (responderOpen slowPeers ours-runs runs settings200) 1300 1401 slowMessage slowBand60
+      (truly 101 computed pos 201 answers 205 between pos 81 and pos 201)

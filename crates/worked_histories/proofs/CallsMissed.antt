@@ -1,0 +1,174 @@
+-- Four premises of demand 3 missed one at a time, by computation: the record, the set-up's beginning, the taking, the message reported.
+-- Assumes nothing.
+use Prim.Native.Nat.{ℕ, _+_, _-_, _≤_}
+use mathlib.Core.Path.{_≡_, refl, ap}
+use native.Mathlib.Omega.{arith}
+use lib.Dec.{lit<, lit≤}
+use lib.IntN.{ℤ, pos}
+use mathlib.Core.List.{List}
+use Rattle.clock.specs.declared.Count.{Count}
+use Rattle.rules.specs.Modulo.{modulo}
+use Rattle.clock.specs.Clock.{wrapped, centred, goesBack, waitOf, ageOf, verdictOf, offsetRead}
+use Rattle.number.specs.Number.{distanceOf, nextOf}
+use Rattle.field.specs.Field.{fieldOf}
+use Rattle.message.specs.Layout.{dataTail}
+use Rattle.message.specs.Table.{tableOf, lists}
+use Rattle.message.specs.Read.{laterStamp, checkOver, wholeOf, parsedOf}
+use Rattle.connection.specs.Connection.{_outside_to_, outOfRange, unsound, released}
+use Rattle.faults.specs.Faults.{expectationOf, numberJudged, dropped, tooFar, gap, wrongEcho, accepts, checkFailed, ageNumber, faultOf}
+use Rattle.judging.specs.Judging.{answ1Taken, estTaken, dataTaken, takenOf, raises, openFollowsOf, followsOf, stepOf}
+use Rattle.connection.specs.declared.Connection.{Connection}
+use Rattle.calls.specs.Calls.{startHeader, bad, closeRefusal, tickRefusal, receiveRefusal, beginRefusal, timed, expired, receiveOutcome, beginOutcome}
+use Rattle.calls.specs.Promises.{deliversTo}
+use Rattle.true_age.specs.Clocks.{World, InBand, countOf}
+use Rattle.true_age.specs.History.{Ours, JudgedBytes, newest, earlier, begun, received}
+use Rattle.worked_histories.specs.Worlds.{StaysInBand, Runs, arrivals, worldOf, initiators, responders, past}
+use Rattle.worked_histories.specs.Histories.{room, begin}
+use Rattle.worked_histories.specs.SetUp.{est, atInitiator, offsetStart}
+use Rattle.worked_histories.specs.Initiator.{settings200}
+use Rattle.worked_histories.specs.CallsMissed.{quickPeers, driftingPeers, asReported, openAsReported, earliersAnsw1, AnotherRecord, BegunAfter, TakenBeforeSent, ReportOfAnother}
+use Rattle.worked_histories.proofs.Worlds.{past-most, responders-run, gaining-runs, at-least, at-most}
+use Rattle.worked_histories.proofs.Histories.{type-4-on, Reaches, judges}
+use Rattle.worked_histories.proofs.SetUp.{initiator-set-up}
+
+-- ---- the clocks
+
+-- whenever our messages arrive
+pub no-drift : (arrived : ℕ → ℕ) → StaysInBand (worldOf initiators responders arrived (λ t u h. h) responders-run) 1000 0
+no-drift arrived judged =
+    record {
+      floor = pos 850;
+      over = λ t h _. at-least t (responders t) 850 0 (omega arith);
+      under = λ t h _. at-most t (responders t) 850 0 (omega arith);
+    }
+
+quick-runs : Runs quickPeers
+quick-runs = gaining-runs 1000 1020 (λ t. t - 870) (λ t u h. omega arith)
+
+-- all 20 ticks are past from 1030 on
+quick-band : StaysInBand (atInitiator quickPeers quick-runs) 1030 0
+quick-band judged =
+    record {
+      floor = pos 850;
+      over = λ t h _. at-least t (quickPeers t) 850 0 (over t h);
+      under = λ t h _. at-most t (quickPeers t) 850 0 (under t h);
+    }
+  where
+    over : (t : ℕ) → 1030 ≤ t → 850 + (t - 870 + (t - 1000 - (t - 1020))) ≤ t + 0
+    over t h = omega arith
+
+    under : (t : ℕ) → 1030 ≤ t → t + 0 ≤ 850 + (t - 870 + (t - 1000 - (t - 1020)))
+    under t h = omega arith
+
+pub drifting-runs : Runs driftingPeers
+drifting-runs = gaining-runs 2000 3000 responders responders-run
+
+-- up to 2000 they do not drift
+before-drift : InBand (atInitiator driftingPeers drifting-runs) 1000 2000 0
+before-drift =
+    record {
+      floor = pos 850;
+      over = λ t h k. at-least t (driftingPeers t) 850 0 (over t h k);
+      under = λ t h k. at-most t (driftingPeers t) 850 0 (under t h k);
+    }
+  where
+    over : (t : ℕ) → 1000 ≤ t → t ≤ 2000 → 850 + (t - 850 + (t - 2000 - (t - 3000))) ≤ t + 0
+    over t h k = omega arith
+
+    under : (t : ℕ) → 1000 ≤ t → t ≤ 2000 → t + 0 ≤ 850 + (t - 850 + (t - 2000 - (t - 3000)))
+    under t h k = omega arith
+
+abbrev pub number : Count → ℕ
+number c = c .0
+
+abbrev minOf : Connection → ℤ
+minOf c = c .min .0
+
+-- ---- each premise missed
+
+pub another-record : AnotherRecord
+unfolding modulo wrapped centred goesBack waitOf ageOf verdictOf offsetRead distanceOf nextOf fieldOf tableOf lists laterStamp checkOver wholeOf parsedOf _outside_to_ outOfRange unsound expectationOf numberJudged dropped tooFar gap wrongEcho accepts checkFailed ageNumber faultOf answ1Taken estTaken dataTaken takenOf raises openFollowsOf followsOf stepOf bad closeRefusal tickRefusal receiveRefusal beginRefusal timed expired receiveOutcome beginOutcome deliversTo
+another-record =
+    record {
+      runs = responders-run;
+      band = no-drift (arrivals 1020 1090 1120);
+      message = judges (initiator-set-up responders responders-run refl refl refl settings200 refl newest) refl
+          (lit≤ tt) (lit≤ tt) (lit≤ tt) (dataTail 1) refl (lit< tt) refl (offsetStart responders responders-run) (earlier (earlier newest)) refl refl;
+      record-missed = λ e. let f : pos 930 ≡ pos 830 = ap minOf e in let g : _≡_ {A = ℕ} 930 830 = cc in omega arith;
+      numbers-are = refl;
+      claim-fails = λ claim. claim .handed-up refl .le;
+    }
+
+pub begun-after : BegunAfter
+unfolding modulo wrapped centred goesBack waitOf ageOf verdictOf offsetRead distanceOf nextOf fieldOf tableOf lists laterStamp checkOver wholeOf parsedOf _outside_to_ outOfRange unsound expectationOf numberJudged dropped tooFar gap wrongEcho accepts checkFailed ageNumber faultOf answ1Taken estTaken dataTaken takenOf raises openFollowsOf followsOf stepOf bad closeRefusal tickRefusal receiveRefusal beginRefusal timed expired receiveOutcome beginOutcome deliversTo
+begun-after =
+    record {
+      runs = quick-runs;
+      band = quick-band;
+      answ1-since = lit≤ tt;
+      est-since = lit≤ tt;
+      message-since = lit≤ tt;
+      message = judges (initiator-set-up quickPeers quick-runs refl refl refl settings200 refl newest) refl
+          (lit≤ tt) (lit≤ tt) (lit≤ tt) (dataTail 1) refl (lit< tt) refl (offsetStart quickPeers quick-runs) (earlier (earlier newest)) refl refl;
+      begun-missed = λ h. omega arith;
+      claim-fails = λ claim. claim .handed-up refl .le;
+    }
+
+pub taken-before-sent : TakenBeforeSent
+unfolding modulo wrapped centred goesBack waitOf ageOf verdictOf offsetRead distanceOf nextOf fieldOf tableOf lists laterStamp checkOver wholeOf parsedOf _outside_to_ outOfRange unsound expectationOf numberJudged dropped tooFar gap wrongEcho accepts checkFailed ageNumber faultOf answ1Taken estTaken dataTaken takenOf raises openFollowsOf followsOf stepOf bad closeRefusal tickRefusal receiveRefusal beginRefusal timed expired receiveOutcome beginOutcome deliversTo
+taken-before-sent =
+    record {
+      runs = drifting-runs;
+      band = before-drift;
+      history = initiator-set-up driftingPeers drifting-runs refl refl refl settings200 refl newest;
+      next = lit≤ tt;
+      since = lit≤ tt;
+      stamped = refl;
+      onward-missed = λ h. omega arith;
+      common-is = refl;
+      numbers-are = refl;
+      claim-fails = λ claim. claim .bounds .least .le;
+    }
+
+-- ---- the set-up in a world as an OffsetAnsw1 reports it
+
+module _ (first : ℕ) where
+  abbrev pub start-as-reported : Ours (asReported first responders-run)
+  start-as-reported = record { at = 1000; header = startHeader 7 (countOf 1000) }
+
+  pub opens-as-reported : (reports : List ℕ)
+      → JudgedBytes (asReported first responders-run) 1000 (begin (asReported first responders-run) 0 settings200 7 50 1000 .log) 1080 (parsedOf reports)
+      → Reaches (asReported first responders-run) 1000 0 settings200 (openAsReported first reports responders-run)
+  unfolding modulo wrapped centred goesBack waitOf ageOf verdictOf offsetRead distanceOf nextOf fieldOf tableOf lists laterStamp checkOver wholeOf parsedOf _outside_to_ outOfRange unsound expectationOf numberJudged dropped tooFar gap wrongEcho accepts checkFailed ageNumber faultOf answ1Taken estTaken dataTaken takenOf raises openFollowsOf followsOf stepOf bad closeRefusal tickRefusal receiveRefusal beginRefusal timed expired receiveOutcome beginOutcome deliversTo
+  opens-as-reported reports judged =
+      received
+      (received (begun released 7 50 1000 room (λ _. lit≤ tt) refl) 1080 (lit≤ tt) reports room (λ _ _. judged))
+      1110 (lit≤ tt) est room
+      (λ _ _. record { sent = 1095; since = lit≤ tt; onward = lit≤ tt; stamped = refl; reports = type-4-on 4 (lit< tt) })
+
+pub report-of-another : ReportOfAnother
+unfolding modulo wrapped centred goesBack waitOf ageOf verdictOf offsetRead distanceOf nextOf fieldOf tableOf lists laterStamp checkOver wholeOf parsedOf _outside_to_ outOfRange unsound expectationOf numberJudged dropped tooFar gap wrongEcho accepts checkFailed ageNumber faultOf answ1Taken estTaken dataTaken takenOf raises openFollowsOf followsOf stepOf bad closeRefusal tickRefusal receiveRefusal beginRefusal timed expired receiveOutcome beginOutcome deliversTo
+report-of-another =
+    record {
+      runs = responders-run;
+      band = no-drift (arrivals 1005 1090 1120);
+      reported = refl;
+      echoes = refl;
+      message = judges opens refl
+          (lit≤ tt) (lit≤ tt) (lit≤ tt) (dataTail 1) refl (lit< tt) refl (start-as-reported 1005) (earlier (earlier newest)) refl refl;
+      of-ours-missed = λ e. let f : _≡_ {A = ℕ} 155 170 = ap number e in omega arith;
+      common-is = refl;
+      numbers-are = refl;
+      claim-fails = λ claim. claim .handed-up refl .le;
+    }
+  where
+    opens : Reaches (asReported 1005 responders-run) 1000 0 settings200 (openAsReported 1005 earliersAnsw1 responders-run)
+    opens =
+        opens-as-reported 1005 earliersAnsw1
+        (record {
+          sent = 1050;
+          since = lit≤ tt;
+          onward = lit≤ tt;
+          stamped = refl;
+          reports = λ _. record { which = 0; ours = start-as-reported 1005; of-ours = newest; onward = lit≤ tt; echoes = refl; reported = refl };
+        })

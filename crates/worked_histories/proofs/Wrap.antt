@@ -1,0 +1,66 @@
+-- The premises of demand 3 are met where both counts pass 2^32, by computation.
+-- Assumes nothing.
+use Prim.Native.Nat.{ℕ, _+_, _≤_}
+use mathlib.Core.Path.{refl}
+use native.Mathlib.Omega.{arith}
+use lib.Dec.{lit<, lit≤}
+use lib.IntN.{pos}
+use Rattle.rules.specs.Modulo.{modulo}
+use Rattle.clock.specs.Clock.{wrapped, centred, goesBack, waitOf, ageOf, verdictOf, offsetRead}
+use Rattle.number.specs.Number.{distanceOf, nextOf}
+use Rattle.field.specs.Field.{fieldOf}
+use Rattle.message.specs.Layout.{dataTail}
+use Rattle.message.specs.Table.{tableOf, lists}
+use Rattle.message.specs.Read.{laterStamp, checkOver, wholeOf, parsedOf}
+use Rattle.connection.specs.Connection.{_outside_to_, outOfRange, unsound, released}
+use Rattle.faults.specs.Faults.{expectationOf, numberJudged, dropped, tooFar, gap, wrongEcho, accepts, checkFailed, ageNumber, faultOf}
+use Rattle.judging.specs.Judging.{answ1Taken, estTaken, dataTaken, takenOf, raises, openFollowsOf, followsOf, stepOf}
+use Rattle.calls.specs.Calls.{bad, closeRefusal, tickRefusal, receiveRefusal, beginRefusal, timed, expired, receiveOutcome, beginOutcome}
+use Rattle.true_age.specs.History.{newest, earlier, begun, received}
+use Rattle.worked_histories.specs.Worlds.{StaysInBand, Runs}
+use Rattle.worked_histories.specs.Histories.{room}
+use Rattle.worked_histories.specs.Initiator.{settings200}
+use Rattle.worked_histories.specs.Wrap.{ours, peers, answ1, est, freshMessage, world, offsetStart, afterEst, afterFresh, AcrossTheWrap}
+use Rattle.worked_histories.proofs.Worlds.{at-least, at-most}
+use Rattle.worked_histories.proofs.Histories.{type-4-on, Reaches, goes-on, judges}
+
+ours-runs : Runs ours
+ours-runs t u h = omega arith
+
+runs : Runs peers
+runs t u h = omega arith
+
+band : StaysInBand (world ours-runs runs) 0 0
+band judged =
+    record {
+      floor = pos 850;
+      over = λ t h _. at-least (ours t) (peers t) 850 0 (omega arith);
+      under = λ t h _. at-most (ours t) (peers t) 850 0 (omega arith);
+    }
+
+pub across-the-wrap : AcrossTheWrap
+unfolding modulo wrapped centred goesBack waitOf ageOf verdictOf offsetRead distanceOf nextOf fieldOf tableOf lists laterStamp checkOver wholeOf parsedOf _outside_to_ outOfRange unsound expectationOf numberJudged dropped tooFar gap wrongEcho accepts checkFailed ageNumber faultOf answ1Taken estTaken dataTaken takenOf raises openFollowsOf followsOf stepOf bad closeRefusal tickRefusal receiveRefusal beginRefusal timed expired receiveOutcome beginOutcome
+across-the-wrap =
+    record {
+      ours-runs = ours-runs;
+      runs = runs;
+      band = band;
+      fresh = judges opens refl
+          (lit≤ tt) (lit≤ tt) (lit≤ tt) (dataTail 1) refl (lit< tt) refl (offsetStart ours-runs runs) (earlier (earlier newest)) refl refl;
+      late = judges (goes-on (afterEst ours-runs runs) opens refl 930 (lit≤ tt) freshMessage) refl
+          (lit≤ tt) (lit≤ tt) (lit≤ tt) (dataTail 1) refl (lit< tt) refl (offsetStart ours-runs runs) (earlier (earlier newest)) refl refl;
+    }
+  where
+    opens : Reaches (world ours-runs runs) 0 0 settings200 (afterEst ours-runs runs)
+    opens =
+        received
+        (received (begun released 7 50 0 room (λ _. lit≤ tt) refl) 80 (lit≤ tt) answ1 room
+        (λ _ _. record {
+          sent = 50;
+          since = lit≤ tt;
+          onward = lit≤ tt;
+          stamped = refl;
+          reports = λ _. record { which = 0; ours = offsetStart ours-runs runs; of-ours = newest; onward = lit≤ tt; echoes = refl; reported = refl };
+        }))
+        110 (lit≤ tt) est room
+        (λ _ _. record { sent = 95; since = lit≤ tt; onward = lit≤ tt; stamped = refl; reports = type-4-on 4 (lit< tt) })
