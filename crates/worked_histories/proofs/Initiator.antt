@@ -64,7 +64,7 @@ initiator-meets =
     sends-4 = sent (initiator-set-up peers runs refl refl refl settings refl newest) 1130 (lit≤ tt) 4 room
 
     takes-fresh : Reaches (world runs) 1000 0 settings (afterFresh runs)
-    takes-fresh = goes-on (afterSend runs) sends-4 refl 1170 (lit≤ tt) freshMessage
+    takes-fresh = goes-on (afterSend runs) sends-4 refl 1172 (lit≤ tt) freshMessage
 
     takes-gap : Reaches (world runs) 1000 0 settings (afterGap runs)
     takes-gap = goes-on (afterFresh runs) takes-fresh refl 1215 (lit≤ tt) gapMessage

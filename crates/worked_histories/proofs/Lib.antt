@@ -6,3 +6,4 @@ pub mod Responder
 pub mod Wrap
 pub mod CallsMissed
 pub mod PremisesMissed
+pub mod AtTable

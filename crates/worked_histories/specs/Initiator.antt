@@ -20,9 +20,9 @@ settings = record { n = 3; «t_max» = 40; e = 0; «t_start» = 100; «t_off» =
 abbrev pub common : Common
 common = record { e = 0; t-max = 40; j = 60; d = 20; oldest = pos 80 }
 
--- stamp 300, sent at 1150
+-- stamp 302, sent at 1152
 abbrev pub freshMessage : List ℕ
-freshMessage = toInitiator 22 0x01 0x2C
+freshMessage = toInitiator 22 0x01 0x2E
 
 -- stamp 350, sent at 1200; number 24 after 22
 abbrev pub gapMessage : List ℕ
@@ -48,7 +48,7 @@ module _ (runs : Runs peers) where
   afterSend = send world (initiatorOpen peers runs settings) 1130 4
 
   abbrev pub afterFresh : Place world
-  afterFresh = receive world afterSend 1170 freshMessage
+  afterFresh = receive world afterSend 1172 freshMessage
 
   abbrev pub afterGap : Place world
   afterGap = receive world afterFresh 1215 gapMessage
@@ -65,8 +65,8 @@ module _ (runs : Runs peers) where
 pub record InitiatorMeets : Type 0 where
   pub runs : Runs peers
   pub band : StaysInBand (world runs) 1000 60
-  -- 01: stamp 300, now 1170: age 40, which T_max 40 delivers
-  pub fresh : Judges (world runs) 1000 1000 0 settings (afterSend runs) 1150 1170 freshMessage common
+  -- an age of T_max is delivered
+  pub fresh : Judges (world runs) 1000 1000 0 settings (afterSend runs) 1152 1172 freshMessage common
       (truly 20 computed pos 40 answers 0 between negℤ (pos 20) and pos 100)
   pub gap : Judges (world runs) 1000 1000 0 settings (afterFresh runs) 1200 1215 gapMessage common
       (truly 15 computed pos 35 answers 204 between negℤ (pos 25) and pos 95)

@@ -62,7 +62,7 @@ pub record ResponderMeets : Type 0 where
   pub ours-runs : Runs responders
   pub runs : Runs peers
   pub band : StaysInBand (world ours-runs runs) 1000 60
-  -- 01: stamp 1200, now 365: age 45, and E 5 more
+  -- an age of T_max is delivered
   pub fresh : Judges (world ours-runs runs) 1000 1000 1 settings (afterEnd ours-runs runs) 1200 1215 freshMessage common
       (truly 15 computed pos 50 answers 0 between negℤ (pos 10) and pos 110)
   pub gap : Judges (world ours-runs runs) 1000 1000 1 settings (afterFresh ours-runs runs) 1250 1260 gapMessage common
