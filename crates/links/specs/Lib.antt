@@ -1,3 +1,4 @@
 pub mod Taken
 pub mod Table
+pub mod Place
 pub mod Promises

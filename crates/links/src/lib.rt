@@ -7,6 +7,7 @@ ghost use lib.ListN.{length, take, drop};
 ghost use Rattle.packet.specs.Sizes.{headerSize, leastLength};
 ghost use Rattle.packet.specs.Types.{au1, au2, inClassD};
 ghost use Rattle.links.specs.Taken.{freshOf, emptyPart, linkDown, packetSize, dropped, handedUp};
+ghost use Rattle.links.specs.Place.{partPlace, userDataPlace};
 ghost use Rattle.links.specs.Table.{lengthFault, holds, held, bothDown, notOpening, notLater, tooFar, classDRows, rowsOf, takenOf, partOf, userDataOf};
 use packet::Header;
 
@@ -293,7 +294,7 @@ pub fn take<'a>(
 
 // A part of a slice, nothing where it does not lie within.
 fn part<'a>(s: &'a [u8], start: usize, size: usize) -> &'a [u8]
-    ensures { λ r. ⌜ now r ≡ partOf (now (s .entry)) start size ⌝ }
+    ensures { λ r. ⌜ (now r ≡ partOf (now (s .entry)) start size) × (r .ptr ≡ partPlace (s .entry) start size) ⌝ }
 {
     if s.len() < start {
         return &s[..0];
@@ -307,7 +308,8 @@ fn part<'a>(s: &'a [u8], start: usize, size: usize) -> &'a [u8]
 
 // The user data that a step hands up, a part of the normal or the redundant link's own slice.
 pub fn user_data<'a>(normal: &'a [u8], redundant: &'a [u8], taken: Taken) -> &'a [u8]
-    ensures { λ r. ⌜ now r ≡ userDataOf (now (normal .entry)) (now (redundant .entry)) taken ⌝ }
+    ensures { λ r. ⌜ (now r ≡ userDataOf (now (normal .entry)) (now (redundant .entry)) taken)
+        × (r .ptr ≡ userDataPlace (normal .entry) (redundant .entry) taken) ⌝ }
 {
     if taken.answer != 0 {
         return &normal[..0];
@@ -339,7 +341,55 @@ pub fn take_from<'a>(normal: LinkReader<'a>, redundant: LinkReader<'a>, state: S
 
 // The user data that a step over two readers hands up.
 pub fn handed_up<'a>(normal: LinkReader<'a>, redundant: LinkReader<'a>, taken: Taken) -> &'a [u8]
-    ensures { λ r. ⌜ now r ≡ userDataOf (now (normal .entry .bytes)) (now (redundant .entry .bytes)) taken ⌝ }
+    ensures { λ r. ⌜ (now r ≡ userDataOf (now (normal .entry .bytes)) (now (redundant .entry .bytes)) taken)
+        × (r .ptr ≡ userDataPlace (normal .entry .bytes) (redundant .entry .bytes) taken) ⌝ }
 {
     user_data(normal.bytes, redundant.bytes, taken)
+}
+
+// One step through two readers that are made of the slices and the places in them.
+pub fn take_by_readers<'a>(
+    normal: &'a [u8],
+    normal_at: usize,
+    redundant: &'a [u8],
+    redundant_at: usize,
+    state: State,
+) -> Taken
+    ensures { λ r. ⌜ r ≡ takenOf (now (normal .entry)) «normal_at» (now (redundant .entry)) «redundant_at» state ⌝ }
+{
+    take_from(
+        LinkReader {
+            bytes: normal,
+            at: normal_at,
+        },
+        LinkReader {
+            bytes: redundant,
+            at: redundant_at,
+        },
+        state,
+    )
+}
+
+// The user data that a step through such readers hands up.
+pub fn handed_up_by_readers<'a>(
+    normal: &'a [u8],
+    normal_at: usize,
+    redundant: &'a [u8],
+    redundant_at: usize,
+    taken: Taken,
+) -> &'a [u8]
+    ensures { λ r. ⌜ (now r ≡ userDataOf (now (normal .entry)) (now (redundant .entry)) taken)
+        × (r .ptr ≡ userDataPlace (normal .entry) (redundant .entry) taken) ⌝ }
+{
+    handed_up(
+        LinkReader {
+            bytes: normal,
+            at: normal_at,
+        },
+        LinkReader {
+            bytes: redundant,
+            at: redundant_at,
+        },
+        taken,
+    )
 }

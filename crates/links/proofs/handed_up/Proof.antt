@@ -36,6 +36,7 @@ use denote.Triple.Table.{entered, cited}
 use denote.Triple.Walked.{says, Stays, stay-none, walkOf, goes-none, Walks, ends-at, walked, walk-meets}
 use denote.Exit.{yes}
 use denote.Triple.Clauses.{ensured, lasts}
+use Rattle.links.specs.Place.{userDataPlace}
 use Rattle.links.specs.Table.{userDataOf}
 use Rattle.links.specs.declared.LinkReader.{LinkReader}
 use Rattle.links.specs.declared.Taken.{Taken}
@@ -68,8 +69,9 @@ module _ {M : Type 1} (𝓤 : URA M) (H : Heap 𝓤) (A : Atoms 𝓤) (W : Given
   abbrev Out : RattleType
   Out = ShrSlice (named 0) κ u8
 
-  abbrev found : List ℕ
-  found = userDataOf (now (d .bytes)) (now (e .bytes)) taken
+  -- what is said of the result: its bytes and its place
+  abbrev Said : Out .Denot → Type 0
+  Said r = (now r ≡ userDataOf (now (d .bytes)) (now (e .bytes)) taken) × (r .ptr ≡ userDataPlace (d .bytes) (e .bytes) taken)
 
   abbrev Post : Val → SProp 𝓤
   Post = walkOf 𝓤 H A handed-up.ended stayed (handed-up.clauses 𝓤 H A mem run) .post (((κ, tt), (q, tt), tt, (d, (e, (taken, tt))), args), tt)
@@ -103,10 +105,10 @@ module _ {M : Type 1} (𝓤 : URA M) (H : Heap 𝓤) (A : Atoms 𝓤) (W : Given
       nothing ! $ move ! (3 ∷ 0 ∷ []) $ fjoin ! $ move ! (2 ∷ 0 ∷ []) $ fjoin ! $ move ! (1 ∷ 0 ∷ []) $ fjoin ! $ done !
 
   -- of the callee's `ensured`, the clause alone: it has no `&mut`, so what is said of last values is dropped
-  said : (r : Out .Denot) → ent 𝓤 (ensured 𝓤 H A user-data.ended (user-data.clauses 𝓤 H A mem run) (κ, tt) (d .bytes, (e .bytes, (taken, tt))) tt r) (fact 𝓤 (now r ≡ found))
-  said r = exE 𝓤 _ (λ ws. snd∗ 𝓤 (sem 𝓤 H A (lasts user-data.ended (κ, tt) (d .bytes, (e .bytes, (taken, tt))) ws)) (fact 𝓤 (now r ≡ found)))
+  said : (r : Out .Denot) → ent 𝓤 (ensured 𝓤 H A user-data.ended (user-data.clauses 𝓤 H A mem run) (κ, tt) (d .bytes, (e .bytes, (taken, tt))) tt r) (fact 𝓤 (Said r))
+  said r = exE 𝓤 _ (λ ws. snd∗ 𝓤 (sem 𝓤 H A (lasts user-data.ended (κ, tt) (d .bytes, (e .bytes, (taken, tt))) ws)) (fact 𝓤 (Said r)))
 
-  exits : (r : Out .Denot) (u : Val) → now r ≡ found → ent 𝓤 (⋆ 𝓤 H A (‵ (Out .own r (u ∷ [])) ∷ (‵ (flft κ q) ⊛ ‵ ftrue) ∷ ‵ Kept ∷ [])) (Post u)
+  exits : (r : Out .Denot) (u : Val) → Said r → ent 𝓤 (⋆ 𝓤 H A (‵ (Out .own r (u ∷ [])) ∷ (‵ (flft κ q) ⊛ ‵ ftrue) ∷ ‵ Kept ∷ [])) (Post u)
   exits r u p =
       qed W (‵ (Out .own r (u ∷ [])) ∷ (‵ (flft κ q) ⊛ ‵ ftrue) ∷ ‵ Kept ∷ []) ∵
       suffices ! _ (ends-at 𝓤 H A handed-up.ended stayed (handed-up.clauses 𝓤 H A mem run) W (((κ, tt), (q, tt), tt, (d, (e, (taken, tt))), args), tt) u r (tt, (tt, (tt, tt))) (tt, (tt, (tt, tt)))) $ says ! p $
@@ -126,7 +128,7 @@ module _ {M : Type 1} (𝓤 : URA M) (H : Heap 𝓤) (A : Atoms 𝓤) (W : Given
         calls-at ! fm (UserDataAt 𝓤 H A mem run) known to
         (and-then ! (load ! (from ! (stop !)) (look ! 4 refl)) (and-then ! (load ! (from ! (stop !)) (look ! 2 refl)) (and-then ! (load ! (from ! (stop !)) (look ! 6 refl)) (no-more !)))) (λ u.
         use1 W (later (some (λ (r : Out .Denot). ((‵ (flft κ q) ⊛ ‵ ftrue) ⊛ ‵ (Out .own r (u ∷ []))) ⊛ raw (ensured 𝓤 H A user-data.ended (user-data.clauses 𝓤 H A mem run) (κ, tt) (d .bytes, (e .bytes, (taken, tt))) tt r)))) (id⊢ 𝓤 _) $ await ! tt $ pick ! (λ r.
-        split ! $ move ! (1 ∷ []) $ use1 W (raw (fact 𝓤 (now r ≡ found))) (said r) $ heard ! (now r ≡ found) (λ p. split ! $ move ! (1 ∷ []) $
+        split ! $ move ! (1 ∷ []) $ use1 W (raw (fact 𝓤 (Said r))) (said r) $ heard ! (Said r) (λ p. split ! $ move ! (1 ∷ []) $
         -- [the result; the token; what the parameters own; _5; …; _0; …]
         peeks ! Out (Is Out) (shows 𝓤 H A Out) r (u ∷ []) (λ ir.
         land ! (from ! (stop !)) (init ! 13 refl (LL.shr-slice-laws (namedLft 1 0 tt (κ, tt)) u8 tt .lawful 𝓤 H A W .typed r _ ir .0)) $

@@ -1,22 +1,27 @@
 -- `links::part` meets its contract: what lies within is that part, and what does not is nothing.
 -- Assumes nothing.
-use mathlib.Core.Path.{_≡_}
+use mathlib.Core.Path.{_≡_, ap}
 use mathlib.Core.List.{List, []}
 use Prim.Native.Nat.{ℕ, _+_, _-_, _≤_, _<_}
 use native.Mathlib.Nat.{add-sub-cancel-left}
 use native.Mathlib.Omega.{arith}
 use lib.ListN.{length, take, drop}
 use borrow.Author.Tests.{le-leb, lt-leb}
+use denote.Ref.{RefT}
+use Rattle.links.specs.Place.{partPlace}
 use Rattle.links.specs.Table.{partOf}
 use borrow.Author.Needs.{needs}
 use Rattle.links.proofs.part.Statement.{statement}
 use Rattle.links.proofs.part.Tie as tie
 
-outside : (s : List ℕ) (start size : ℕ) → length s < start + size → [] ≡ partOf s start size
-outside s start size h = simp (lt-leb _ _ h)
+outside : (s : RefT (List ℕ)) (start size : ℕ) → length (s .now) < start + size → ([] ≡ partOf (s .now) start size) × (s .ptr ≡ partPlace s start size)
+outside s start size h = (simp (lt-leb _ _ h), simp (lt-leb _ _ h))
 
-within : (s : List ℕ) (start size : ℕ) → start + size ≤ length s → take ((start + size) - start) (drop start s) ≡ partOf s start size
-within s start size h = simp (le-leb _ _ h, add-sub-cancel-left)
+within : (s : RefT (List ℕ)) (start size : ℕ) → start + size ≤ length (s .now)
+    → (take ((start + size) - start) (drop start (s .now)) ≡ partOf (s .now) start size) × ((s .ptr .0, start + s .ptr .1) ≡ partPlace s start size)
+within s start size h =
+    let place : start + s .ptr .1 ≡ s .ptr .1 + start = omega arith in
+    (simp (le-leb _ _ h, add-sub-cancel-left), simp (le-leb _ _ h) (ap (λ (n : ℕ). (s .ptr .0, n)) place))
 
 slice-aggregate-result : tie.Need-slice-aggregate-result
 slice-aggregate-result c = search needs
@@ -24,7 +29,7 @@ slice-aggregate-result c = search needs
 returns : tie.Need-returns
 returns c =
     let a = c .before .before .args in
-    outside (a .s .now) (a .start) (a .size) (omega arith)
+    outside (a .s) (a .start) (a .size) (omega arith)
 
 sub-if2 : tie.Need-sub-if2
 sub-if2 c = search needs
@@ -35,7 +40,7 @@ slice-aggregate-result-2 c = search needs
 returns-2 : tie.Need-returns-2
 returns-2 c =
     let a = c .before .before .before .args in
-    outside (a .s .now) (a .start) (a .size) (omega arith)
+    outside (a .s) (a .start) (a .size) (omega arith)
 
 add-end : tie.Need-add-end
 add-end c = search needs
@@ -52,7 +57,7 @@ part-result-end c = search needs
 returns-3 : tie.Need-returns-3
 returns-3 c =
     let a = c .before .before .before .args in
-    within (a .s .now) (a .start) (a .size) (omega arith)
+    within (a .s) (a .start) (a .size) (omega arith)
 
 pub part-spec : {M : Type 1} → statement M
 part-spec =

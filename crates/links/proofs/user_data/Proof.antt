@@ -7,25 +7,35 @@ use Prim.Native.Nat.{ℕ}
 use borrow.Author.Tests.{eq-eqb}
 use Rattle.rules.proofs.Tests.{tests}
 use Rattle.links.specs.declared.Taken.{Taken}
+use denote.Ref.{RefT}
+use Rattle.links.specs.Place.{partPlace, userDataPlace}
 use Rattle.links.specs.Table.{partOf, userDataOf}
 use borrow.Author.Needs.{needs}
 use Rattle.links.proofs.user_data.Statement.{statement}
 use Rattle.links.proofs.user_data.Tie as tie
 
-module _ (normal redundant : List ℕ) (taken : Taken) (zero : taken .answer ≡ 0) where
-  of-normal : taken .normal ≡ true → partOf normal (taken .start) (taken .size) ≡ userDataOf normal redundant taken
-  unfolding userDataOf
-  of-normal e = simp (eq-eqb _ _ zero, e)
+module _ (normal redundant : RefT (List ℕ)) (taken : Taken) (zero : taken .answer ≡ 0) where
+  -- a part of a link, and its place
+  abbrev Part : RefT (List ℕ) → RefT (List ℕ) → Type 0
+  Part s r = (r .now ≡ partOf (s .now) (taken .start) (taken .size)) × (r .ptr ≡ partPlace s (taken .start) (taken .size))
 
-  of-redundant : taken .normal ≡ false → partOf redundant (taken .start) (taken .size) ≡ userDataOf normal redundant taken
-  unfolding userDataOf
-  of-redundant e = simp (eq-eqb _ _ zero, e)
+  -- what is handed up, and its place
+  abbrev UserData : RefT (List ℕ) → Type 0
+  UserData r = (r .now ≡ userDataOf (normal .now) (redundant .now) taken) × (r .ptr ≡ userDataPlace normal redundant taken)
+
+  of-normal : (r : RefT (List ℕ)) → taken .normal ≡ true → Part normal r → UserData r
+  unfolding userDataOf userDataPlace
+  of-normal r e part = simp (eq-eqb _ _ zero, e) part
+
+  of-redundant : (r : RefT (List ℕ)) → taken .normal ≡ false → Part redundant r → UserData r
+  unfolding userDataOf userDataPlace
+  of-redundant r e part = simp (eq-eqb _ _ zero, e) part
 
 slice-aggregate-result : tie.Need-slice-aggregate-result
 slice-aggregate-result c = search needs
 
 returns : tie.Need-returns
-unfolding userDataOf
+unfolding userDataOf userDataPlace
 returns c = search tests
 
 part-requires : tie.Need-part-requires
@@ -34,7 +44,7 @@ part-requires c κs = search needs
 returns-2 : tie.Need-returns-2
 returns-2 c =
     let a = c .before .before .before .before .before .before .args in
-    c .part .ensures ∙ of-normal (a .normal .now) (a .redundant .now) (a .taken) (c .before .before .if1 .left) (c .before .if2 .taken)
+    of-normal (a .normal) (a .redundant) (a .taken) (c .before .before .if1 .left) (c .part .result) (c .before .if2 .taken) (c .part .ensures)
 
 part-requires-2 : tie.Need-part-requires-2
 part-requires-2 c κs = search needs
@@ -42,7 +52,7 @@ part-requires-2 c κs = search needs
 returns-3 : tie.Need-returns-3
 returns-3 c =
     let a = c .before .before .before .before .before .before .args in
-    c .part2 .ensures ∙ of-redundant (a .normal .now) (a .redundant .now) (a .taken) (c .before .before .if1 .left) (c .before .if2 .left)
+    of-redundant (a .normal) (a .redundant) (a .taken) (c .before .before .if1 .left) (c .part2 .result) (c .before .if2 .left) (c .part2 .ensures)
 
 pub user-data-spec : {M : Type 1} → statement M
 user-data-spec =
