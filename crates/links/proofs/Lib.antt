@@ -3,6 +3,7 @@ pub mod Alike
 pub mod Bools
 pub mod Cases
 pub mod ClassRows
+pub mod Forward
 pub mod Judgeable
 pub mod LinkRows
 pub mod Outcome

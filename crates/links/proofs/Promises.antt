@@ -1,13 +1,14 @@
 -- What is promised of every step, besides its table: each promise holds of the four things that may follow (proofs/Outcome).
 -- Assumes nothing.
 use Prim.Native.Nat.{ℕ, _+_, _-_, _≤_}
-use mathlib.Core.Path.{_≡_, refl}
+use mathlib.Core.Path.{_≡_, refl, ap, _∙_}
 use mathlib.Core.Bool.{Bool, true, false}
 use mathlib.Core.List.{List, [], List·Memᴰ}
 use mathlib.Core.Logic.{⊎-elim}
 use native.Mathlib.Omega.{arith}
 use borrow.Author.Tests.{ne-eqb, le-leb}
-use lib.ListN.{length}
+use lib.ListN.{length, drop, length-drop}
+use lib.Seq.{length-take-le}
 use Rattle.packet.specs.Sizes.{headerSize, leastLength}
 use Rattle.packet.specs.Packet.{headerOf, dataOf}
 use Rattle.packet.specs.RoundTrip.{PacketOn}
@@ -15,7 +16,7 @@ use Rattle.links.specs.declared.State.{State}
 use Rattle.links.specs.declared.Taken.{Taken}
 use Rattle.links.specs.Taken.{downOf, emptyPart, handedUp}
 use Rattle.links.specs.Table.{takenOf, userDataOf}
-use Rattle.links.specs.Promises.{ofLink, answers, bytes, place, AnswersOfTheTable, DownStaysDown, UsesNoMoreThanLent, FaultsPutOneLinkDown, OthersHandUpNothing, HandsUpThePacket}
+use Rattle.links.specs.Promises.{ofLink, answers, bytes, place, AnswersOfTheTable, DownStaysDown, UsesNoMoreThanLent, FaultsPutOneLinkDown, OthersHandUpNothing, HandsUpThePacket, CountsItsUserData}
 use Rattle.links.proofs.Outcome.{entry, by-step}
 
 -- no part is handed up of another answer
@@ -31,6 +32,11 @@ data-of-packet normal redundant link at state p =
     let s = ofLink link normal redundant in
     let h : at + headerSize + (headerOf s at .length - leastLength) ≤ length s = omega (arith, p .whole, p .least) in
     simp (le-leb _ _ h)
+
+-- a packet that stands whole at a place has as many bytes of user data as its length says
+size-of-data : (link : Bool) (s : List ℕ) (at : ℕ) → PacketOn link s at → length (dataOf s at) ≡ headerOf s at .length - leastLength
+size-of-data link s at p =
+    length-take-le (headerOf s at .length - leastLength) (drop (at + headerSize) s) (omega (arith, length-drop (at + headerSize) s, p .whole, p .least))
 
 -- a link that is down is down after one goes down
 normal-down : (link : Bool) (state : State) → state .«normal_up» ≡ false → downOf link state .«normal_up» ≡ false
@@ -91,3 +97,12 @@ module _ (normal : List ℕ) (normalAt : ℕ) (redundant : List ℕ) (redundantA
       (λ a m o z. let f : ⊥ = ⊎-elim (λ b. omega arith) (λ b. omega arith) o in absurd f) (λ link a m l h z. let f : ⊥ = omega arith in absurd f)
       (λ link a m b p z. let f : ⊥ = omega arith in absurd f)
       (λ link c z. (data-of-packet normal redundant link (ofLink link normalAt redundantAt) state (c .stands), refl, c .stands))
+
+  pub counts-its-user-data : CountsItsUserData normal normalAt redundant redundantAt state
+  counts-its-user-data =
+      by-step normal normalAt redundant redundantAt state (λ (t : Taken). length (userDataOf normal redundant t) ≡ t .size)
+      (λ a m o. ap length (no-part normal redundant _ (λ z. ⊎-elim (λ b. omega arith) (λ b. omega arith) o)))
+      (λ link a m l h. ap length (no-part normal redundant _ (λ z. omega arith)))
+      (λ link a m b p. ap length (no-part normal redundant _ (λ z. omega arith)))
+      (λ link c. ap length (data-of-packet normal redundant link (ofLink link normalAt redundantAt) state (c .stands))
+      ∙ size-of-data link (ofLink link normal redundant) (ofLink link normalAt redundantAt) (c .stands))

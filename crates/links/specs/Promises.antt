@@ -1,6 +1,6 @@
 -- What is promised of every step besides its table. Each promise is a type here, and is proved under the same words in proofs/.
 -- Assumes nothing.
-use Prim.Native.Nat.{ℕ, _+_, _≤_}
+use Prim.Native.Nat.{ℕ, _+_, _≤_, _<_}
 use mathlib.Core.Path.{_≡_}
 use mathlib.Core.Bool.{Bool, true, false, not, cond, _&&_}
 use mathlib.Core.List.{List, [], _∷_, _++_, List·Memᴰ}
@@ -20,6 +20,10 @@ use Rattle.links.specs.Table.{held, takenOf, userDataOf}
 -- of the two links, what belongs to the normal one or to the other: its bytes, its place
 abbrev pub ofLink : {A : Type 0} → Bool → A → A → A
 ofLink normal a b = cond normal a b
+
+-- how many links are up
+abbrev pub linksUp : State → ℕ
+linksUp state = cond (state .«normal_up») 1 0 + cond (state .«redundant_up») 1 0
 
 -- the answers of the table, in its order
 abbrev pub answers : List ℕ
@@ -66,6 +70,17 @@ module _ (normal : List ℕ) (normalAt : ℕ) (redundant : List ℕ) (redundantA
       → (userDataOf normal redundant step ≡ dataOf (bytes step) (place step))
       × (step ≡ handedUp (step .normal) (place step) (headerOf (bytes step) (place step)) state)
       × PacketOn (step .normal) (bytes step) (place step)
+
+  -- the user data that is handed up has as many bytes as the answer says
+  abbrev pub CountsItsUserData : Type 0
+  CountsItsUserData = length (userDataOf normal redundant step) ≡ step .size
+
+  -- unless it answers 308 or 301, a step uses bytes of the link that it names, all of them there, or puts a link down: so it never goes on for ever
+  abbrev pub GoesForward : Type 0
+  GoesForward =
+      (step .answer ≡ 308 → ⊥) → (step .answer ≡ 301 → ⊥)
+      → ((0 < step .used) × (place step + step .used ≤ length (bytes step)) × (linksUp (step .state) ≡ linksUp state))
+      ⊎ ((step .used ≡ 0) × (linksUp (step .state) < linksUp state))
 
   -- what is accepted, written for its link from its fields and its user data, is not refused and gives its bytes
   abbrev pub AcceptedWritesBack : Type 0
