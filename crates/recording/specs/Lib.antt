@@ -1,3 +1,4 @@
 pub mod Printed
 pub mod Progress
+pub mod Cut
 pub mod Whole
