@@ -75,16 +75,26 @@ fn put_handed_up(out: &mut [u8], at: usize, kind: u8, number: u16, size: usize) 
     text::put(out, after_size, b"\n")
 }
 
-// The line of a step.
-pub fn put_line(out: &mut [u8], at: usize, taken: Taken) -> usize
+// The line of a step, whose user data has so many bytes.
+fn put_counted(out: &mut [u8], at: usize, taken: Taken, size: usize) -> usize
     requires { ⌜ at + mostLine ≤ length (now out) ⌝ }
+    requires { ⌜ size ≡ taken .size ⌝ }
     ensures { λ r. ⌜ PutAt (now (out .entry)) at (lineOf taken) (now (out .exit)) r ⌝ }
     ensures { λ r. ⌜ r ≤ at + mostLine ⌝ }
 {
     let after_link = put_link(out, at, taken.normal);
     let after_answer = put_number(out, after_link, taken.answer as u64);
     let after_used = put_number(out, after_answer, taken.used as u64);
-    put_handed_up(out, after_used, taken.kind, taken.number, taken.size)
+    put_handed_up(out, after_used, taken.kind, taken.number, size)
+}
+
+// The line of a step.
+pub fn put_line(out: &mut [u8], at: usize, taken: Taken) -> usize
+    requires { ⌜ at + mostLine ≤ length (now out) ⌝ }
+    ensures { λ r. ⌜ PutAt (now (out .entry)) at (lineOf taken) (now (out .exit)) r ⌝ }
+    ensures { λ r. ⌜ r ≤ at + mostLine ⌝ }
+{
+    put_counted(out, at, taken, taken.size)
 }
 
 // The last line.
@@ -98,7 +108,7 @@ pub fn put_end(out: &mut [u8], at: usize, count: u64) -> usize
     text::put(out, after_count, b"\n")
 }
 
-// One step over the two windows.
+// One step over the two windows, through a reader of each.
 fn take<'a>(normal: &'a [u8], redundant: &'a [u8], p: Progress) -> Taken
     requires { ⌜ Lies p (length (now normal)) (length (now redundant)) ⌝ }
     ensures { λ r. ⌜ r ≡ takenAt (now (normal .entry)) (now (redundant .entry)) p ⌝ }
@@ -107,13 +117,33 @@ fn take<'a>(normal: &'a [u8], redundant: &'a [u8], p: Progress) -> Taken
     let normal_to = p.normal.to;
     let redundant_from = p.redundant.from;
     let redundant_to = p.redundant.to;
-    links::take(
+    links::take_by_readers(
         &normal[..normal_to],
         normal_from,
         &redundant[..redundant_to],
         redundant_from,
         p.state,
     )
+}
+
+// How many bytes of user data that step hands up: those of the part that is handed up are counted, of whichever window held the packet.
+fn count_data<'a>(normal: &'a [u8], redundant: &'a [u8], p: Progress, taken: Taken) -> usize
+    requires { ⌜ Lies p (length (now normal)) (length (now redundant)) ⌝ }
+    requires { ⌜ taken ≡ takenAt (now normal) (now redundant) p ⌝ }
+    ensures { λ r. ⌜ r ≡ taken .size ⌝ }
+{
+    let normal_from = p.normal.from;
+    let normal_to = p.normal.to;
+    let redundant_from = p.redundant.from;
+    let redundant_to = p.redundant.to;
+    let part = links::handed_up_by_readers(
+        &normal[..normal_to],
+        normal_from,
+        &redundant[..redundant_to],
+        redundant_from,
+        taken,
+    );
+    part.len()
 }
 
 // Whether a step was the last.
@@ -184,7 +214,8 @@ pub fn advance<'a>(
     ensures { λ r. ⌜ Lies (r .progress) (length (now (normal .entry))) (length (now (redundant .entry))) × (r .progress .«handed_up» ≤ p .«handed_up» + 1) × (r .next ≤ at + mostLine) ⌝ }
 {
     let taken = take(normal, redundant, p);
-    let next = put_line(out, at, taken);
+    let size = count_data(normal, redundant, p, taken);
+    let next = put_counted(out, at, taken, size);
     Advanced {
         progress: stepped(p, taken),
         next,

@@ -13,13 +13,16 @@ use Rattle.recording.proofs.advance.Tie as tie
 take-requires : tie.Need-take-requires
 take-requires c κs = search needs
 
-put-line-requires : tie.Need-put-line-requires
-put-line-requires c κs = search needs
+count-data-requires : tie.Need-count-data-requires
+count-data-requires c κs = search needs
+
+put-counted-requires : tie.Need-put-counted-requires
+put-counted-requires c κs = search needs
 
 stepped-requires : tie.Need-stepped-requires
 stepped-requires c κs =
-    let taken = c .before .before .before .before .take in
-    let start = c .before .before .before .before .before .before .before .before in
+    let taken = c .before .before .before .before .before .take in
+    let start = c .before .before .before .before .before .before .before .before .before in
     let a = start .args in
     (uses (a .normal .now) (a .redundant .now) (a .p) (start .pre .0) (taken .ensures), start .pre .1 .1 .1)
 
@@ -28,9 +31,9 @@ same-length c = search needs
 
 returns : tie.Need-returns
 returns c =
-    let taken = c .before .before .before .before .before .take in
-    let line = c .before .before .before .put-line in
-    let start = c .before .before .before .before .before .before .before .before .before in
+    let taken = c .before .before .before .before .before .before .take in
+    let line = c .before .before .before .put-counted in
+    let start = c .before .before .before .before .before .before .before .before .before .before in
     let a = start .args in
     let ns = length (a .normal .now) in
     let rs = length (a .redundant .now) in
@@ -45,4 +48,4 @@ returns c =
 
 pub advance-spec : {M : Type 1} → statement M
 advance-spec =
-    tie.close (tie.spec take-requires put-line-requires stepped-requires same-length returns)
+    tie.close (tie.spec take-requires count-data-requires put-counted-requires stepped-requires same-length returns)

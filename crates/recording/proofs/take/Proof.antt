@@ -5,17 +5,17 @@ use borrow.Author.Needs.{needs}
 use Rattle.recording.proofs.take.Statement.{statement}
 use Rattle.recording.proofs.take.Tie as tie
 
-slice-aggregate-take : tie.Need-slice-aggregate-take
-slice-aggregate-take c = let start = c .before .before .before in sym (length-take-le (start .args .p .normal .to) (start .args .normal .now) (start .pre .0 .1))
+slice-aggregate-take-by-readers : tie.Need-slice-aggregate-take-by-readers
+slice-aggregate-take-by-readers c = let start = c .before .before .before in sym (length-take-le (start .args .p .normal .to) (start .args .normal .now) (start .pre .0 .1))
 
-slice-aggregate-take-2 : tie.Need-slice-aggregate-take-2
-slice-aggregate-take-2 c = let start = c .before .before .before .before in sym (length-take-le (start .args .p .redundant .to) (start .args .redundant .now) (start .pre .1 .1))
+slice-aggregate-take-by-readers-2 : tie.Need-slice-aggregate-take-by-readers-2
+slice-aggregate-take-by-readers-2 c = let start = c .before .before .before .before in sym (length-take-le (start .args .p .redundant .to) (start .args .redundant .now) (start .pre .1 .1))
 
-take-requires : tie.Need-take-requires
-take-requires c κs = search needs
+take-by-readers-requires : tie.Need-take-by-readers-requires
+take-by-readers-requires c κs = search needs
 
 returns : tie.Need-returns
 returns c = search needs
 
 pub take-spec : {M : Type 1} → statement M
-take-spec = tie.close (tie.spec slice-aggregate-take slice-aggregate-take-2 take-requires returns)
+take-spec = tie.close (tie.spec slice-aggregate-take-by-readers slice-aggregate-take-by-readers-2 take-by-readers-requires returns)
