@@ -1,3 +1,4 @@
 pub mod Windows
 pub mod Steps
 pub mod Whole
+pub mod Turns
