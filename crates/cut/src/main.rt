@@ -2,11 +2,12 @@
 ghost use mathlib.Core.Path.{_≡_};
 ghost use mathlib.Core.Bool.{false};
 ghost use Prim.Native.Nat.{_+_, _^_, _≤_, _<_};
-ghost use lib.ListN.{length};
+ghost use lib.ListN.{length, take};
 ghost use Rattle.window.specs.Window.{Within, lowOf};
 ghost use Rattle.links.specs.Promises.{mostBytes};
-ghost use Rattle.recording.specs.Printed.{mostLine};
+ghost use Rattle.recording.specs.Printed.{heading, mostLine};
 ghost use Rattle.recording.specs.Progress.{Lies};
+ghost use Rattle.recording.specs.Whole.{ToppedUp, placeOf, TurnOf, PrintedToTheEnd, PrintedWhole};
 use libc::STDERR_FILENO;
 use links::State;
 use recording::Progress;
@@ -38,6 +39,7 @@ struct Turned {
 // Refills a window that is low, or says why its file can't be read.
 fn topped_up(fd: i32, name: &[u8], buffer: &mut [u8], window: Window) -> Refilled
     requires { ⌜ Within window (length (now buffer)) × (mostBytes ≤ length (now buffer)) ⌝ }
+    ensures { λ r. ⌜ ToppedUp (now (buffer .entry)) window (now (buffer .exit)) (r .window) ⌝ }
     ensures { λ r. ⌜ Within (r .window) (length (now (buffer .entry))) ⌝ }
     ensures { λ r. ⌜ (r .failed ≡ false → lowOf mostBytes (r .window) ≡ false) ⌝ }
 {
@@ -69,6 +71,8 @@ fn both_topped_up(
     requires { ⌜ (mostBytes ≤ length (now normal)) × (mostBytes ≤ length (now redundant)) ⌝ }
     ensures { λ r. ⌜ Within (r .normal) (length (now (normal .entry))) × Within (r .redundant) (length (now (redundant .entry))) ⌝ }
     ensures { λ r. ⌜ (r .failed ≡ false → (lowOf mostBytes (r .normal) ≡ false) × (lowOf mostBytes (r .redundant) ≡ false)) ⌝ }
+    ensures { λ r. ⌜ (r .failed ≡ false → ToppedUp (now (normal .entry)) (p .normal) (now (normal .exit)) (r .normal)
+        × ToppedUp (now (redundant .entry)) (p .redundant) (now (redundant .exit)) (r .redundant)) ⌝ }
 {
     let first = topped_up(normal_fd, normal_name, normal, p.normal);
     let normal_window = first.window;
@@ -103,6 +107,7 @@ fn written(out: &[u8], at: usize) -> bool
 // Makes room for a line.
 fn room(out: &[u8], at: usize) -> Place
     requires { ⌜ (at ≤ length (now out)) × (mostLine ≤ length (now out)) ⌝ }
+    ensures { λ r. ⌜ r .at ≡ placeOf (length (now (out .entry))) at ⌝ }
     ensures { λ r. ⌜ r .at + mostLine ≤ length (now (out .entry)) ⌝ }
 {
     if recording::MOST_LINE <= out.len() - at {
@@ -115,16 +120,28 @@ fn room(out: &[u8], at: usize) -> Place
     }
 }
 
-// Puts the last line and writes what the out buffer holds.
-fn finish(out: &mut [u8], at: usize, count: u64)
+// Writes the rest of the text: with what was written before, it is what is printed for the bytes that were read of both files, from the state that the steps
+// started with (recording's proofs/Turns). That state is here for the contract alone. No contract can say what is read from a file or written to one: that
+// the calls which read hand over a file's next bytes, and that `written` writes what the out buffer holds, is all that stands between the files and the
+// printed text.
+fn finish(out: &[u8], at: usize, state: State)
+    requires { ⌜ at ≤ length (now out) ⌝ }
+    requires { ⌜ PrintedWhole state (now out) at ⌝ }
+{
+    written(out, at);
+}
+
+// Puts the last line, and finishes.
+fn put_last(out: &mut [u8], at: usize, count: u64, state: State)
     requires { ⌜ (at ≤ length (now out)) × (mostLine ≤ length (now out)) ⌝ }
+    requires { ⌜ PrintedToTheEnd state (now out) at count ⌝ }
 {
     let place = room(out, at);
     if place.failed {
         return;
     }
     let end = recording::put_end(out, place.at, count);
-    written(out, end);
+    finish(out, end, state);
 }
 
 // One turn: room for a line, the windows topped up, and a step with its line.
@@ -145,6 +162,8 @@ fn turn(
     requires { ⌜ p .«handed_up» + 1 < 2 ^ 64 ⌝ }
     ensures { λ r. ⌜ Lies (r .progress) (length (now (normal .entry))) (length (now (redundant .entry))) ⌝ }
     ensures { λ r. ⌜ (r .at ≤ length (now (out .entry))) × (r .progress .«handed_up» ≤ p .«handed_up» + 1) ⌝ }
+    ensures { λ r. ⌜ (r .failed ≡ false → TurnOf (now (normal .entry)) (now (redundant .entry)) p (now (out .entry)) at
+        (now (normal .exit)) (now (redundant .exit)) (now (out .exit)) (r .progress) (r .at)) ⌝ }
 {
     let place = room(out, at);
     if place.failed {
@@ -204,6 +223,7 @@ fn cut_links(
 )
     requires { ⌜ (mostBytes ≤ length (now normal)) × (mostBytes ≤ length (now redundant)) ⌝ }
     requires { ⌜ (place ≤ length (now out)) × (mostLine ≤ length (now out)) ⌝ }
+    requires { ⌜ take place (now out) ≡ heading ⌝ }
 {
     let mut at = place;
     let mut p = Progress {
@@ -232,7 +252,7 @@ fn cut_links(
         p = turned.progress;
         at = turned.at;
         if p.last {
-            finish(out, at, p.handed_up);
+            put_last(out, at, p.handed_up, state);
             return;
         }
         turns -= 1;

@@ -28,7 +28,7 @@ use Rattle.recording.specs.declared.Progress.{Progress}
 use Rattle.recording.proofs.Whole.{pieces-as-whole}
 
 -- the front of an out buffer after text is put behind it
-front-put : {before after text : List ℕ} {at next : ℕ} → PutAt before at text after next → next ≤ length before → take next after ≡ take at before ++ text
+pub front-put : {before after text : List ℕ} {at next : ℕ} → PutAt before at text after next → next ≤ length before → take next after ≡ take at before ++ text
 front-put {before} {after} {text} {at} {next} put within =
     let fits : at + length text ≤ length before = omega (arith, put .place) in
     let size : length (take at before ++ text) ≡ next = omega (arith, length-append (take at before) text, length-take-le at before (omega arith), put .place) in
@@ -89,15 +89,15 @@ topped-reads before w after v size up = by (lowOf mostBytes w) refl
       none = λ rest all ended. absurd (false≢true (sym (low-not-ended mostBytes w e) ∙ ended));
     }
 
--- before the first turn: the heading is put
-pub cutting-first : (state : State) (normal redundant : List ℕ) {p : Progress} {before out : List ℕ} {at : ℕ} → p ≡ startOf state → PutAt before 0 heading out at
-    → at ≤ length before → Cutting state normal redundant p out at
-cutting-first state normal redundant {p} {before} {out} {at} start put within = record {
+-- before the first turn: the out buffer holds the heading
+pub cutting-first : (state : State) (normal redundant : List ℕ) {p : Progress} {out : List ℕ} {at : ℕ} → p ≡ startOf state → take at out ≡ heading
+    → Cutting state normal redundant p out at
+cutting-first state normal redundant {p} {out} {at} start headed = record {
   normalRead = [];
   redundantRead = [];
   written = [];
   cuts = λ normalRest redundantRest _ _.
-      subst (λ (l : List ℕ). Cuts state normalRest redundantRest normal redundant p normalRest redundantRest l) (sym (front-put put within))
+      subst (λ (l : List ℕ). Cuts state normalRest redundantRest normal redundant p normalRest redundantRest l) (sym headed)
       (subst (λ (q : Progress). Cuts state normalRest redundantRest normal redundant q normalRest redundantRest heading) (sym start) (starts normal redundant));
 }
 

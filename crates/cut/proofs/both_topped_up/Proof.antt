@@ -15,7 +15,7 @@ returns : tie.Need-returns
 returns c =
     let first = c .before .before .before .before .before .topped-up in
     let start = c .before .before .before .before .before .before .before .before .before .before .before in
-    ((first .ensures .0, start .pre .0 .1), λ ok. absurd (false≢true (sym ok)))
+    ((first .ensures .1 .0, start .pre .0 .1), (λ ok. absurd (false≢true (sym ok)), λ ok. absurd (false≢true (sym ok))))
 
 topped-up-requires-2 : tie.Need-topped-up-requires-2
 topped-up-requires-2 c κs = search needs
@@ -30,7 +30,10 @@ returns-2 : tie.Need-returns-2
 returns-2 c =
     let first = c .before .before .before .before .before .before .before .before .before .before .topped-up in
     let second = c .before .before .before .topped-up2 in
-    ((first .ensures .0, second .ensures .0), λ ok. (first .ensures .1 (c .before .before .before .before .before .if1 .left), second .ensures .1 ok))
+    let read = c .before .before .before .before .before .if1 .left in (
+      (first .ensures .1 .0, second .ensures .1 .0),
+      (λ ok. (first .ensures .1 .1 read, second .ensures .1 .1 ok), λ ok. (first .ensures .0, second .ensures .0)),
+    )
 
 pub both-topped-up-spec : {M : Type 1} → statement M
 both-topped-up-spec =

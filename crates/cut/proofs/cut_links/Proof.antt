@@ -1,21 +1,27 @@
--- `cut::cut_links` is safe and ends: the windows lie within their buffers, the out buffer's place within it, and the packets handed up and the turns
--- left are together below 2 ^ 64. The measure is the number of turns that are left. Assumes nothing.
+-- `cut::cut_links` is safe and ends, and what it prints is what `cut` prints for the bytes that it read: each turn carries the cutting on. The windows lie
+-- within their buffers, the out buffer's place within it, and the packets handed up and the turns left are together below 2 ^ 64. The measure is the number
+-- of turns that are left. Assumes nothing.
 use Prim.Native.Nat.{_+_, _^_, _≤_, _<_}
-use mathlib.Core.Path.{_≡_, refl, _∙_}
+use mathlib.Core.Path.{_≡_, refl, ap₂, _∙_}
+use mathlib.Core.Bool.{false}
 use native.Mathlib.Omega.{arith}
 use lib.ListN.{length}
+use Rattle.window.specs.declared.Window.{Window}
 use Rattle.window.proofs.Empty.{none-within}
 use Rattle.recording.specs.Progress.{Lies}
+use Rattle.recording.specs.Whole.{startOf, windowed, Cutting}
+use Rattle.recording.proofs.Turns.{cutting-first, turn-cuts, printed-to-the-end}
 use Rattle.cut.proofs.cut_links.Statement.{statement}
 use Rattle.cut.proofs.cut_links.Tie as tie
 
 abbrev Inv-loop : tie.InvT-loop
-Inv-loop normal-fd normal-name normal₀ redundant-fd redundant-name redundant₀ out₀ place at₀ p₀ turns₀ normal redundant out at p turns =
+Inv-loop normal-fd normal-name normal₀ redundant-fd redundant-name redundant₀ out₀ place state at₀ p₀ turns₀ normal redundant out at p turns =
     (length normal ≡ length normal₀) × (length redundant ≡ length redundant₀) × (length out ≡ length out₀)
     × Lies p (length normal₀) (length redundant₀) × (at ≤ length out₀) × (p .«handed_up» + turns < 2 ^ 64)
+    × (p .last ≡ false) × Cutting state normal redundant p out at
 
 abbrev μ-loop : tie.MeasureT-loop
-μ-loop normal-fd normal-name normal₀ redundant-fd redundant-name redundant₀ out₀ place at₀ p₀ turns₀ normal redundant out at p turns =
+μ-loop normal-fd normal-name normal₀ redundant-fd redundant-name redundant₀ out₀ place state at₀ p₀ turns₀ normal redundant out at p turns =
     turns
 
 empty-requires : tie.Need-empty-requires Inv-loop μ-loop
@@ -26,13 +32,17 @@ empty-requires-2 c κs = tt
 
 loop-holds : tie.Need-loop-holds Inv-loop μ-loop
 loop-holds c =
-    let start = c .before .before .before .before .before .before .before in (
+    let start = c .before .before .before .before .before .before .before in
+    let a = start .args in (
       refl,
       refl,
       refl,
       (none-within _ _ (c .before .empty .ensures), none-within _ _ (c .empty2 .ensures)),
-      start .pre .1 .0,
+      start .pre .1 .0 .0,
       omega arith,
+      refl,
+      cutting-first (a .state) (a .normal .now) (a .redundant .now)
+          (ap₂ (λ (n r : Window). windowed n r (startOf (a .state))) (c .before .empty .ensures) (c .empty2 .ensures)) (start .pre .1 .1),
     )
 
 turn-requires : tie.Need-turn-requires Inv-loop μ-loop
@@ -43,7 +53,7 @@ turn-requires c κs =
       ((lies .0 .0, omega (arith, lies .0 .1, inv .0)), (lies .1 .0, omega (arith, lies .1 .1, inv .1))),
       (
         (omega (arith, pre .0 .0, inv .0), omega (arith, pre .0 .1, inv .1)),
-        ((omega (arith, inv .4, inv .2), omega (arith, inv .2, pre .1 .1)), omega (arith, inv .5)),
+        ((omega (arith, inv .4, inv .2), omega (arith, inv .2, pre .1 .0 .1)), omega (arith, inv .5)),
       ),
     )
 
@@ -59,11 +69,24 @@ same-length-3 c = c .before .before .before .before .before .before .before .tur
 returns : tie.Need-returns Inv-loop μ-loop
 returns c = tt
 
-finish-requires : tie.Need-finish-requires Inv-loop μ-loop
-finish-requires c κs =
+put-last-requires : tie.Need-put-last-requires Inv-loop μ-loop
+put-last-requires c κs =
+    let at = c .before .before .before .before .before .before .before .before .before .before .before .before .before .before .before .loop in
     let turned = c .before .before .before .before .before .before .before .before .before .before .turn in
-    let inv = c .before .before .before .before .before .before .before .before .before .before .before .before .before .before .before .loop .inv in
-    (omega (arith, turned .ensures .1 .0, turned .kept .1 .1 .1 .1 .1 .1 .0), omega (arith, turned .kept .1 .1 .1 .1 .1 .1 .0, inv .2, c .before .before .before .before .before .before .before .before .before .before .before .before .before .before .before .before .before .before .before .before .before .before .before .pre .1 .1))
+    let pre = c .before .before .before .before .before .before .before .before .before .before .before .before .before .before .before .before .before .before .before .before .before .before .before .pre in
+    let inv = at .inv in
+    let normal = turned .last .1 .1 .0 in
+    let redundant = turned .last .1 .1 .1 .1 .1 .0 in
+    let out = turned .last .1 .1 .1 .1 .1 .1 .0 in
+    let p = turned .result .progress in
+    let next = turned .result .at in
+    let state = c .before .before .before .before .before .before .before .before .before .before .before .before .before .before .before .before .before .before .before .before .before .before .before .args .state in
+    let carried =
+    turn-cuts state (at .normal) (at .redundant) (at .p) (at .out) (at .at) normal redundant out p next (turned .ensures .1 .1 (c .before .before .before .if1 .left))
+    (turned .kept .1 .1 .0) (turned .kept .1 .1 .1 .1 .1 .0) (turned .ensures .1 .0 .0) (inv .6) (inv .7) in (
+      (omega (arith, turned .ensures .1 .0 .0, turned .kept .1 .1 .1 .1 .1 .1 .0), omega (arith, turned .kept .1 .1 .1 .1 .1 .1 .0, inv .2, pre .1 .0 .1)),
+      printed-to-the-end state normal redundant p out next carried (c .before .if2 .taken),
+    )
 
 same-length-4 : tie.Need-same-length-4 Inv-loop μ-loop
 same-length-4 c = c .before .before .before .before .before .before .before .before .before .before .before .before .before .turn .kept .1 .1 .0 ∙ c .before .before .before .before .before .before .before .before .before .before .before .before .before .before .before .before .before .before .loop .inv .0
@@ -72,7 +95,7 @@ same-length-5 : tie.Need-same-length-5 Inv-loop μ-loop
 same-length-5 c = c .before .before .before .before .before .before .before .before .before .before .before .before .before .turn .kept .1 .1 .1 .1 .1 .0 ∙ c .before .before .before .before .before .before .before .before .before .before .before .before .before .before .before .before .before .before .loop .inv .1
 
 same-length-6 : tie.Need-same-length-6 Inv-loop μ-loop
-same-length-6 c = c .before .before .finish .kept .0 ∙ c .before .before .before .before .before .before .before .before .before .before .before .before .before .turn .kept .1 .1 .1 .1 .1 .1 .0 ∙ c .before .before .before .before .before .before .before .before .before .before .before .before .before .before .before .before .before .before .loop .inv .2
+same-length-6 c = c .before .before .put-last .kept .0 ∙ c .before .before .before .before .before .before .before .before .before .before .before .before .before .turn .kept .1 .1 .1 .1 .1 .1 .0 ∙ c .before .before .before .before .before .before .before .before .before .before .before .before .before .before .before .before .before .before .loop .inv .2
 
 returns-2 : tie.Need-returns-2 Inv-loop μ-loop
 returns-2 c = tt
@@ -85,15 +108,21 @@ loop-less c = omega arith
 
 loop-again : tie.Need-loop-again Inv-loop μ-loop
 loop-again c =
+    let at = c .before .before .before .before .before .before .before .before .before .before .before .before .before .before .loop in
     let turned = c .before .before .before .before .before .before .before .before .before .turn in
-    let inv = c .before .before .before .before .before .before .before .before .before .before .before .before .before .before .loop .inv in
-    let lies = turned .ensures .0 in (
+    let inv = at .inv in
+    let lies = turned .ensures .0 in
+    let state = c .before .before .before .before .before .before .before .before .before .before .before .before .before .before .before .before .before .before .before .before .before .before .args .state in (
       turned .kept .1 .1 .0 ∙ inv .0,
       turned .kept .1 .1 .1 .1 .1 .0 ∙ inv .1,
       turned .kept .1 .1 .1 .1 .1 .1 .0 ∙ inv .2,
       ((lies .0 .0, omega (arith, lies .0 .1, inv .0)), (lies .1 .0, omega (arith, lies .1 .1, inv .1))),
-      omega (arith, turned .ensures .1 .0, inv .2),
-      omega (arith, turned .ensures .1 .1, inv .5),
+      omega (arith, turned .ensures .1 .0 .0, inv .2),
+      omega (arith, turned .ensures .1 .0 .1, inv .5),
+      c .if2 .left,
+      turn-cuts state (at .normal) (at .redundant) (at .p) (at .out) (at .at) (turned .last .1 .1 .0) (turned .last .1 .1 .1 .1 .1 .0) (turned .last .1 .1 .1 .1 .1 .1 .0)
+          (turned .result .progress) (turned .result .at) (turned .ensures .1 .1 (c .before .before .if1 .left))
+          (turned .kept .1 .1 .0) (turned .kept .1 .1 .1 .1 .1 .0) (turned .ensures .1 .0 .0) (inv .6) (inv .7),
     )
 
 same-length-7 : tie.Need-same-length-7 Inv-loop μ-loop
@@ -122,7 +151,7 @@ cut-links-spec =
     same-length-2
     same-length-3
     returns
-    finish-requires
+    put-last-requires
     same-length-4
     same-length-5
     same-length-6
