@@ -10,6 +10,7 @@ ghost use Rattle.recording.specs.Progress.{Lies};
 ghost use Rattle.recording.specs.Whole.{ToppedUp, placeOf, TurnOf, PrintedToTheEnd, PrintedWhole};
 use libc::STDERR_FILENO;
 use links::State;
+use recording::Advanced;
 use recording::Progress;
 use text::Chosen;
 use window::Read;
@@ -29,10 +30,9 @@ struct Windows {
     failed: bool,
 }
 
-// How far the cutting is after a turn, the place in the out buffer, and whether the turn failed.
+// How far the cutting is after a turn, and whether a file could not be read or what the out buffer held not be written.
 struct Turned {
-    progress: Progress,
-    at: usize,
+    advanced: Advanced,
     failed: bool,
 }
 
@@ -160,16 +160,18 @@ fn turn(
     requires { ⌜ (mostBytes ≤ length (now normal)) × (mostBytes ≤ length (now redundant)) ⌝ }
     requires { ⌜ (at ≤ length (now out)) × (mostLine ≤ length (now out)) ⌝ }
     requires { ⌜ p .«handed_up» + 1 < 2 ^ 64 ⌝ }
-    ensures { λ r. ⌜ Lies (r .progress) (length (now (normal .entry))) (length (now (redundant .entry))) ⌝ }
-    ensures { λ r. ⌜ (r .at ≤ length (now (out .entry))) × (r .progress .«handed_up» ≤ p .«handed_up» + 1) ⌝ }
+    ensures { λ r. ⌜ Lies (r .advanced .progress) (length (now (normal .entry))) (length (now (redundant .entry))) ⌝ }
+    ensures { λ r. ⌜ (r .advanced .next ≤ length (now (out .entry))) × (r .advanced .progress .«handed_up» ≤ p .«handed_up» + 1) ⌝ }
     ensures { λ r. ⌜ (r .failed ≡ false → TurnOf (now (normal .entry)) (now (redundant .entry)) p (now (out .entry)) at
-        (now (normal .exit)) (now (redundant .exit)) (now (out .exit)) (r .progress) (r .at)) ⌝ }
+        (now (normal .exit)) (now (redundant .exit)) (now (out .exit)) (r .advanced)) ⌝ }
 {
     let place = room(out, at);
     if place.failed {
         return Turned {
-            progress: p,
-            at: place.at,
+            advanced: Advanced {
+                progress: p,
+                next: place.at,
+            },
             failed: true,
         };
     }
@@ -194,16 +196,15 @@ fn turn(
     };
     if windows.failed {
         return Turned {
-            progress: lent,
-            at: place.at,
+            advanced: Advanced {
+                progress: lent,
+                next: place.at,
+            },
             failed: true,
         };
     }
-    let advanced = recording::advance(normal, redundant, out, place.at, lent);
-    let progress = advanced.progress;
     Turned {
-        progress,
-        at: advanced.next,
+        advanced: recording::advance(normal, redundant, out, place.at, lent),
         failed: false,
     }
 }
@@ -249,8 +250,9 @@ fn cut_links(
         if turned.failed {
             return;
         }
-        p = turned.progress;
-        at = turned.at;
+        let advanced = turned.advanced;
+        p = advanced.progress;
+        at = advanced.next;
         if p.last {
             put_last(out, at, p.handed_up, state);
             return;

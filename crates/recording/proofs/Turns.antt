@@ -25,6 +25,7 @@ use Rattle.recording.specs.Whole.{wasRead, Reads, startOf, windowed, Cut
 use Rattle.recording.specs.Whole.Reads.{stays, refills}
 use Rattle.recording.specs.Whole.Cuts.{starts, reads, steps}
 use Rattle.recording.specs.declared.Progress.{Progress}
+use Rattle.recording.specs.declared.Advanced.{Advanced}
 use Rattle.recording.proofs.Whole.{pieces-as-whole}
 
 -- the front of an out buffer after text is put behind it
@@ -111,8 +112,8 @@ ended-stays taken p = by (taken .normal) refl
     by false e = rw e (refl, refl)
 
 -- a turn carries the cutting on
-module _ (state : State) (normal redundant : List ℕ) (p : Progress) (out : List ℕ) (at : ℕ) (normalAfter redundantAfter outAfter : List ℕ) (progress : Progress) (next : ℕ)
-    (turn : TurnOf normal redundant p out at normalAfter redundantAfter outAfter progress next) where
+module _ (state : State) (normal redundant : List ℕ) (p : Progress) (out : List ℕ) (at : ℕ) (normalAfter redundantAfter outAfter : List ℕ) (a : Advanced)
+    (turn : TurnOf normal redundant p out at normalAfter redundantAfter outAfter a) where
   -- the progress with its windows topped up, and the step over them
   abbrev lent : Progress
   lent = windowed (turn .first) (turn .second) p
@@ -120,8 +121,8 @@ module _ (state : State) (normal redundant : List ℕ) (p : Progress) (out : Lis
   abbrev taken : Taken
   taken = takenAt normalAfter redundantAfter lent
 
-  pub turn-cuts : length normalAfter ≡ length normal → length redundantAfter ≡ length redundant → next ≤ length out → p .last ≡ false
-      → Cutting state normal redundant p out at → Cutting state normalAfter redundantAfter progress outAfter next
+  pub turn-cuts : length normalAfter ≡ length normal → length redundantAfter ≡ length redundant → a .next ≤ length out → p .last ≡ false
+      → Cutting state normal redundant p out at → Cutting state normalAfter redundantAfter (a .progress) outAfter (a .next)
   turn-cuts normalSize redundantSize within goes was =
       let n = topped-reads normal (p .normal) normalAfter (turn .first) normalSize (turn .up-normal) in
       let r = topped-reads redundant (p .redundant) redundantAfter (turn .second) redundantSize (turn .up-redundant) in
@@ -132,19 +133,19 @@ module _ (state : State) (normal redundant : List ℕ) (p : Progress) (out : Lis
         redundantRead = was .redundantRead ++ r .read;
         written = place .before;
         cuts = λ normalRest redundantRest normalAll redundantAll.
-            let allNormal : turn .first .ended ≡ true → normalRest ≡ [] = λ ended. normalAll (ap (λ (q : Progress). q .normal .ended) (turn .stepped) ∙ stay .0 ∙ ended) in
-            let allRedundant : turn .second .ended ≡ true → redundantRest ≡ [] = λ ended. redundantAll (ap (λ (q : Progress). q .redundant .ended) (turn .stepped) ∙ stay .1 ∙ ended) in
+            let allNormal : turn .first .ended ≡ true → normalRest ≡ [] = λ ended. normalAll (ap (λ (q : Progress). q .normal .ended) (turn .advanced .progress) ∙ stay .0 ∙ ended) in
+            let allRedundant : turn .second .ended ≡ true → redundantRest ≡ [] = λ ended. redundantAll (ap (λ (q : Progress). q .redundant .ended) (turn .advanced .progress) ∙ stay .1 ∙ ended) in
             let run =
             steps (reads (was .cuts (n .read ++ normalRest) (r .read ++ redundantRest) (n .none normalRest allNormal) (r .none redundantRest allRedundant)) (n .on normalRest allNormal) (r .on redundantRest allRedundant))
             goes (turn .high-normal) (turn .high-redundant) in
-            subst (λ (l : List ℕ). Cuts state l (was .redundantRead ++ r .read ++ redundantRest) normalAfter redundantAfter progress normalRest redundantRest (place .before ++ take next outAfter))
+            subst (λ (l : List ℕ). Cuts state l (was .redundantRead ++ r .read ++ redundantRest) normalAfter redundantAfter (a .progress) normalRest redundantRest (place .before ++ take (a .next) outAfter))
             (sym (append-assoc (was .normalRead) (n .read) normalRest))
-            (subst (λ (l : List ℕ). Cuts state (was .normalRead ++ (n .read ++ normalRest)) l normalAfter redundantAfter progress normalRest redundantRest (place .before ++ take next outAfter))
+            (subst (λ (l : List ℕ). Cuts state (was .normalRead ++ (n .read ++ normalRest)) l normalAfter redundantAfter (a .progress) normalRest redundantRest (place .before ++ take (a .next) outAfter))
             (sym (append-assoc (was .redundantRead) (r .read) redundantRest))
-            (subst (λ (q : Progress). Cuts state (was .normalRead ++ (n .read ++ normalRest)) (was .redundantRead ++ (r .read ++ redundantRest)) normalAfter redundantAfter q normalRest redundantRest (place .before ++ take next outAfter))
-            (sym (turn .stepped))
+            (subst (λ (q : Progress). Cuts state (was .normalRead ++ (n .read ++ normalRest)) (was .redundantRead ++ (r .read ++ redundantRest)) normalAfter redundantAfter q normalRest redundantRest (place .before ++ take (a .next) outAfter))
+            (sym (turn .advanced .progress))
             (subst (λ (l : List ℕ). Cuts state (was .normalRead ++ (n .read ++ normalRest)) (was .redundantRead ++ (r .read ++ redundantRest)) normalAfter redundantAfter (steppedOf taken lent) normalRest redundantRest l)
-            (sym (put-behind place (turn .put) within)) run)));
+            (sym (put-behind place (turn .advanced .put) within)) run)));
       }
 
 -- after the last step only the last line is left to print

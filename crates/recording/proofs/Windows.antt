@@ -1,7 +1,7 @@
--- A step over two windows uses no more than they have, so they lie within their buffers after it too.
+-- A step over two windows uses no more than they have, so they lie within their buffers after it too; and two results that it allows agree.
 -- Assumes nothing.
 use Prim.Native.Nat.{ℕ, _+_, _≤_}
-use mathlib.Core.Path.{_≡_, refl, sym, subst}
+use mathlib.Core.Path.{_≡_, refl, sym, ap₂, subst, _∙_}
 use mathlib.Core.Bool.{Bool, true, false, cond, false≢true}
 use mathlib.Core.List.{List}
 use native.Mathlib.Omega.{arith}
@@ -12,8 +12,9 @@ use Rattle.window.specs.Window.{Within, usedOf}
 use Rattle.window.specs.declared.Window.{Window}
 use Rattle.links.specs.declared.Taken.{Taken}
 use Rattle.links.proofs.Promises.{uses-no-more-than-lent}
-use Rattle.recording.specs.Progress.{takenAt, countedOf, steppedOf, UsesNoMore, Lies}
+use Rattle.recording.specs.Progress.{takenAt, countedOf, steppedOf, UsesNoMore, Lies, AdvancesAgree}
 use Rattle.recording.specs.declared.Progress.{Progress}
+use Rattle.recording.specs.declared.Advanced.{Advanced}
 
 -- what is within the link that is named, said of each link
 by-link : (normal : Bool) (n r used : ℕ) (ns rs : List ℕ) → cond normal n r + used ≤ length (cond normal ns rs)
@@ -56,3 +57,10 @@ unfolding steppedOf countedOf
 lies-after ns rs p after taken u l e =
     subst (λ (q : Progress). Lies q ns rs × (q .«handed_up» ≤ p .«handed_up» + 1)) (sym e)
     (within-after (taken .normal) (taken .used) (p .normal) (p .redundant) ns rs u (l .0) (l .1), counts-one (p .«handed_up») (eqb (taken .answer) 0))
+
+pub advances-agree : AdvancesAgree
+advances-agree normal redundant p before at after after′ r r′ one other =
+    let next = one .put .place ∙ sym (other .put .place) in
+    let progress = one .progress ∙ sym (other .progress) in
+    let same : r ≡ r′ = ap₂ (λ (q : Progress) (n : ℕ). record { progress = q; next = n }) progress next in
+    (one .put .bytes ∙ sym (other .put .bytes), same)

@@ -9,7 +9,10 @@ use lib.ListN.{take}
 use Rattle.window.specs.Window.{Within, usedOf}
 use Rattle.links.specs.Table.{takenOf}
 use Rattle.links.specs.declared.Taken.{Taken}
+use Rattle.text.specs.Text.{PutAt}
+use Rattle.recording.specs.Printed.{lineOf}
 use Rattle.recording.specs.declared.Progress.{Progress}
+use Rattle.recording.specs.declared.Advanced.{Advanced}
 
 -- what one step takes of the two windows
 abbrev pub takenAt : List ℕ → List ℕ → Progress → Taken
@@ -42,3 +45,14 @@ UsesNoMore taken p =
 -- the windows lie within their buffers
 abbrev pub Lies : Progress → ℕ → ℕ → Type 0
 Lies p normal redundant = Within (p .normal) normal × Within (p .redundant) redundant
+
+-- One step over the two windows, with its line put into an out buffer at a place.
+pub record AdvancedTo (normal redundant : List ℕ) (p : Progress) (before : List ℕ) (at : ℕ) (after : List ℕ) (r : Advanced) : Type 0 where
+  pub progress : r .progress ≡ steppedOf (takenAt normal redundant p) p
+  pub put : PutAt before at (lineOf (takenAt normal redundant p)) after (r .next)
+
+-- Two results that one input allows agree, in the progress, the place and every byte.
+abbrev pub AdvancesAgree : Type 0
+AdvancesAgree =
+    (normal redundant : List ℕ) (p : Progress) (before : List ℕ) (at : ℕ) (after after′ : List ℕ) (r r′ : Advanced)
+    → AdvancedTo normal redundant p before at after r → AdvancedTo normal redundant p before at after′ r′ → (after ≡ after′) × (r ≡ r′)

@@ -8,7 +8,6 @@ use mathlib.Core.List.{List, [], _++_}
 use lib.Dec.{ltb}
 use lib.ListN.{length, take, drop}
 use Rattle.rules.specs.Rows.{when_answer_else_}
-use Rattle.text.specs.Text.{PutAt}
 use Rattle.window.specs.Window.{emptyWindow, leftOf, unread, lowOf, RefilledFrom}
 use Rattle.window.specs.declared.Window.{Window}
 use Rattle.window.specs.declared.Refilled.{Refilled}
@@ -16,9 +15,10 @@ use Rattle.links.specs.Promises.{mostBytes}
 use Rattle.links.specs.declared.State.{State}
 use Rattle.links.specs.declared.Taken.{Taken}
 use Rattle.recording.specs.Printed.{heading, lineOf, endOf, mostLine}
-use Rattle.recording.specs.Progress.{takenAt, lastAnswer, steppedOf, Lies}
+use Rattle.recording.specs.Progress.{takenAt, lastAnswer, steppedOf, Lies, AdvancedTo}
 use Rattle.recording.specs.Cut.{Reach, reachedBy, stepFrom, cutOf}
 use Rattle.recording.specs.declared.Progress.{Progress}
+use Rattle.recording.specs.declared.Advanced.{Advanced}
 
 -- A window follows a file from a place: its unread bytes are the file's next ones, behind them come those that are still to be read, and where the file has
 -- ended there are none of these.
@@ -123,15 +123,14 @@ placeOf size at =
     at
 
 -- One turn: room for a line; both windows topped up, so that neither is low; a step over them, with its line put into the out buffer.
-pub record TurnOf (normal redundant : List ℕ) (p : Progress) (out : List ℕ) (at : ℕ) (normalAfter redundantAfter outAfter : List ℕ) (progress : Progress) (next : ℕ) : Type 0 where
+pub record TurnOf (normal redundant : List ℕ) (p : Progress) (out : List ℕ) (at : ℕ) (normalAfter redundantAfter outAfter : List ℕ) (r : Advanced) : Type 0 where
   pub first : Window
   pub second : Window
   pub up-normal : ToppedUp normal (p .normal) normalAfter first
   pub up-redundant : ToppedUp redundant (p .redundant) redundantAfter second
   pub high-normal : lowOf mostBytes first ≡ false
   pub high-redundant : lowOf mostBytes second ≡ false
-  pub stepped : progress ≡ steppedOf (takenAt normalAfter redundantAfter (windowed first second p)) (windowed first second p)
-  pub put : PutAt out (placeOf (length out) at) (lineOf (takenAt normalAfter redundantAfter (windowed first second p))) outAfter next
+  pub advanced : AdvancedTo normalAfter redundantAfter (windowed first second p) out (placeOf (length out) at) outAfter r
 
 -- Between the turns: the bytes that were read of each file and the text that was written, so that with any bytes that follow, none where a file has ended,
 -- it is the cutting of two files that has printed what was written and what the out buffer holds.

@@ -7,7 +7,7 @@ ghost use Rattle.text.specs.Text.{PutAt, mostDigits};
 ghost use Rattle.window.specs.Window.{lowOf};
 ghost use Rattle.links.specs.Promises.{mostBytes};
 ghost use Rattle.recording.specs.Printed.{heading, linkName, numberText, handedUpText, lineOf, endOf, mostLine};
-ghost use Rattle.recording.specs.Progress.{takenAt, lastAnswer, countedOf, steppedOf, UsesNoMore, Lies};
+ghost use Rattle.recording.specs.Progress.{takenAt, lastAnswer, countedOf, steppedOf, UsesNoMore, Lies, AdvancedTo};
 use links::State;
 use links::Taken;
 use window::Window;
@@ -132,15 +132,15 @@ fn count_data<'a>(normal: &'a [u8], redundant: &'a [u8], p: Progress, taken: Tak
     requires { ⌜ taken ≡ takenAt (now normal) (now redundant) p ⌝ }
     ensures { λ r. ⌜ r ≡ taken .size ⌝ }
 {
-    let normal_from = p.normal.from;
-    let normal_to = p.normal.to;
-    let redundant_from = p.redundant.from;
-    let redundant_to = p.redundant.to;
+    let normal_place = p.normal.from;
+    let normal_end = p.normal.to;
+    let redundant_place = p.redundant.from;
+    let redundant_end = p.redundant.to;
     let part = links::handed_up_by_readers(
-        &normal[..normal_to],
-        normal_from,
-        &redundant[..redundant_to],
-        redundant_from,
+        &normal[..normal_end],
+        normal_place,
+        &redundant[..redundant_end],
+        redundant_place,
         taken,
     );
     part.len()
@@ -209,8 +209,7 @@ pub fn advance<'a>(
     requires { ⌜ at + mostLine ≤ length (now out) ⌝ }
     requires { ⌜ (lowOf mostBytes (p .normal) ≡ false) × (lowOf mostBytes (p .redundant) ≡ false) ⌝ }
     requires { ⌜ p .«handed_up» + 1 < 2 ^ 64 ⌝ }
-    ensures { λ r. ⌜ r .progress ≡ steppedOf (takenAt (now (normal .entry)) (now (redundant .entry)) p) p ⌝ }
-    ensures { λ r. ⌜ PutAt (now (out .entry)) at (lineOf (takenAt (now (normal .entry)) (now (redundant .entry)) p)) (now (out .exit)) (r .next) ⌝ }
+    ensures { λ r. ⌜ AdvancedTo (now (normal .entry)) (now (redundant .entry)) p (now (out .entry)) at (now (out .exit)) r ⌝ }
     ensures { λ r. ⌜ Lies (r .progress) (length (now (normal .entry))) (length (now (redundant .entry))) × (r .progress .«handed_up» ≤ p .«handed_up» + 1) × (r .next ≤ at + mostLine) ⌝ }
 {
     let taken = take(normal, redundant, p);

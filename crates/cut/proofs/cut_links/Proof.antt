@@ -71,31 +71,31 @@ returns c = tt
 
 put-last-requires : tie.Need-put-last-requires Inv-loop μ-loop
 put-last-requires c κs =
-    let at = c .before .before .before .before .before .before .before .before .before .before .before .before .before .before .before .loop in
-    let turned = c .before .before .before .before .before .before .before .before .before .before .turn in
-    let pre = c .before .before .before .before .before .before .before .before .before .before .before .before .before .before .before .before .before .before .before .before .before .before .before .pre in
+    let at = c .before .before .before .before .before .before .before .before .before .before .before .before .before .before .before .before .loop in
+    let turned = c .before .before .before .before .before .before .before .before .before .before .before .turn in
+    let pre = c .before .before .before .before .before .before .before .before .before .before .before .before .before .before .before .before .before .before .before .before .before .before .before .before .pre in
     let inv = at .inv in
     let normal = turned .last .1 .1 .0 in
     let redundant = turned .last .1 .1 .1 .1 .1 .0 in
     let out = turned .last .1 .1 .1 .1 .1 .1 .0 in
-    let p = turned .result .progress in
-    let next = turned .result .at in
-    let state = c .before .before .before .before .before .before .before .before .before .before .before .before .before .before .before .before .before .before .before .before .before .before .before .args .state in
+    let p = turned .result .advanced .progress in
+    let next = turned .result .advanced .next in
+    let state = c .before .before .before .before .before .before .before .before .before .before .before .before .before .before .before .before .before .before .before .before .before .before .before .before .args .state in
     let carried =
-    turn-cuts state (at .normal) (at .redundant) (at .p) (at .out) (at .at) normal redundant out p next (turned .ensures .1 .1 (c .before .before .before .if1 .left))
+    turn-cuts state (at .normal) (at .redundant) (at .p) (at .out) (at .at) normal redundant out (turned .result .advanced) (turned .ensures .1 .1 (c .before .before .before .before .if1 .left))
     (turned .kept .1 .1 .0) (turned .kept .1 .1 .1 .1 .1 .0) (turned .ensures .1 .0 .0) (inv .6) (inv .7) in (
       (omega (arith, turned .ensures .1 .0 .0, turned .kept .1 .1 .1 .1 .1 .1 .0), omega (arith, turned .kept .1 .1 .1 .1 .1 .1 .0, inv .2, pre .1 .0 .1)),
       printed-to-the-end state normal redundant p out next carried (c .before .if2 .taken),
     )
 
 same-length-4 : tie.Need-same-length-4 Inv-loop μ-loop
-same-length-4 c = c .before .before .before .before .before .before .before .before .before .before .before .before .before .turn .kept .1 .1 .0 ∙ c .before .before .before .before .before .before .before .before .before .before .before .before .before .before .before .before .before .before .loop .inv .0
+same-length-4 c = c .before .before .before .before .before .before .before .before .before .before .before .before .before .before .turn .kept .1 .1 .0 ∙ c .before .before .before .before .before .before .before .before .before .before .before .before .before .before .before .before .before .before .before .loop .inv .0
 
 same-length-5 : tie.Need-same-length-5 Inv-loop μ-loop
-same-length-5 c = c .before .before .before .before .before .before .before .before .before .before .before .before .before .turn .kept .1 .1 .1 .1 .1 .0 ∙ c .before .before .before .before .before .before .before .before .before .before .before .before .before .before .before .before .before .before .loop .inv .1
+same-length-5 c = c .before .before .before .before .before .before .before .before .before .before .before .before .before .before .turn .kept .1 .1 .1 .1 .1 .0 ∙ c .before .before .before .before .before .before .before .before .before .before .before .before .before .before .before .before .before .before .before .loop .inv .1
 
 same-length-6 : tie.Need-same-length-6 Inv-loop μ-loop
-same-length-6 c = c .before .before .put-last .kept .0 ∙ c .before .before .before .before .before .before .before .before .before .before .before .before .before .turn .kept .1 .1 .1 .1 .1 .1 .0 ∙ c .before .before .before .before .before .before .before .before .before .before .before .before .before .before .before .before .before .before .loop .inv .2
+same-length-6 c = c .before .before .put-last .kept .0 ∙ c .before .before .before .before .before .before .before .before .before .before .before .before .before .before .turn .kept .1 .1 .1 .1 .1 .1 .0 ∙ c .before .before .before .before .before .before .before .before .before .before .before .before .before .before .before .before .before .before .before .loop .inv .2
 
 returns-2 : tie.Need-returns-2 Inv-loop μ-loop
 returns-2 c = tt
@@ -108,11 +108,11 @@ loop-less c = omega arith
 
 loop-again : tie.Need-loop-again Inv-loop μ-loop
 loop-again c =
-    let at = c .before .before .before .before .before .before .before .before .before .before .before .before .before .before .loop in
-    let turned = c .before .before .before .before .before .before .before .before .before .turn in
+    let at = c .before .before .before .before .before .before .before .before .before .before .before .before .before .before .before .loop in
+    let turned = c .before .before .before .before .before .before .before .before .before .before .turn in
     let inv = at .inv in
     let lies = turned .ensures .0 in
-    let state = c .before .before .before .before .before .before .before .before .before .before .before .before .before .before .before .before .before .before .before .before .before .before .args .state in (
+    let state = c .before .before .before .before .before .before .before .before .before .before .before .before .before .before .before .before .before .before .before .before .before .before .before .args .state in (
       turned .kept .1 .1 .0 ∙ inv .0,
       turned .kept .1 .1 .1 .1 .1 .0 ∙ inv .1,
       turned .kept .1 .1 .1 .1 .1 .1 .0 ∙ inv .2,
@@ -121,7 +121,7 @@ loop-again c =
       omega (arith, turned .ensures .1 .0 .1, inv .5),
       c .if2 .left,
       turn-cuts state (at .normal) (at .redundant) (at .p) (at .out) (at .at) (turned .last .1 .1 .0) (turned .last .1 .1 .1 .1 .1 .0) (turned .last .1 .1 .1 .1 .1 .1 .0)
-          (turned .result .progress) (turned .result .at) (turned .ensures .1 .1 (c .before .before .if1 .left))
+          (turned .result .advanced) (turned .ensures .1 .1 (c .before .before .before .if1 .left))
           (turned .kept .1 .1 .0) (turned .kept .1 .1 .1 .1 .1 .0) (turned .ensures .1 .0 .0) (inv .6) (inv .7),
     )
 

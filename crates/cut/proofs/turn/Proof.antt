@@ -3,9 +3,7 @@ use Prim.Native.Nat.{ℕ}
 use mathlib.Core.Path.{sym, subst}
 use mathlib.Core.Bool.{false≢true}
 use native.Mathlib.Omega.{arith}
-use Rattle.text.specs.Text.{PutAt}
-use Rattle.recording.specs.Printed.{lineOf}
-use Rattle.recording.specs.Progress.{takenAt}
+use Rattle.recording.specs.Progress.{AdvancedTo}
 use Rattle.recording.specs.Whole.{windowed}
 use borrow.Author.Needs.{needs}
 use Rattle.cut.proofs.turn.Statement.{statement}
@@ -48,7 +46,10 @@ advance-requires c κs =
     let normal = windows .ensures .0 .0 in
     let redundant = windows .ensures .0 .1 in (
       ((normal .0, omega (arith, normal .1, windows .kept .1 .1 .0)), (redundant .0, omega (arith, redundant .1, windows .kept .1 .1 .1 .1 .1 .0))),
-      (place .ensures .1, (windows .ensures .1 .0 (c .before .before .before .if2 .left), start .pre .1 .1 .1)),
+      (
+        omega (arith, place .ensures .1, start .pre .1 .1 .0 .1),
+        (windows .ensures .1 .0 (c .before .before .before .if2 .left), omega (arith, start .pre .1 .1 .1)),
+      ),
     )
 
 same-length-5 : tie.Need-same-length-5
@@ -62,21 +63,21 @@ same-length-7 c = search needs
 
 returns-3 : tie.Need-returns-3
 returns-3 c =
-    let windows = c .before .before .before .before .before .before .before .before .before .before .before .before .before .before .before .both-topped-up in
-    let place = c .before .before .before .before .before .before .before .before .before .before .before .before .before .before .before .before .before .before .before .room in
-    let start = c .before .before .before .before .before .before .before .before .before .before .before .before .before .before .before .before .before .before .before .before .before .before .before .before .before .before in
+    let windows = c .before .before .before .before .before .before .before .before .before .before .before .before .before .before .both-topped-up in
+    let place = c .before .before .before .before .before .before .before .before .before .before .before .before .before .before .before .before .before .before .room in
+    let start = c .before .before .before .before .before .before .before .before .before .before .before .before .before .before .before .before .before .before .before .before .before .before .before .before .before in
     let a = start .args in
-    let advance = c .before .before .before .advance in
-    let after = advance .ensures .1 .1 in
+    let advance = c .before .before .advance in
+    let after = advance .ensures .1 in
     let lies = after .0 in
-    let read = c .before .before .before .before .before .before .before .if2 .left in
+    let read = c .before .before .before .before .before .before .if2 .left in
     let normal = windows .last .1 .1 .0 in
     let redundant = windows .last .1 .1 .1 .1 .1 .0 in
     let first = windows .result .normal in
     let second = windows .result .redundant in (
       ((lies .0 .0, omega (arith, lies .0 .1, windows .kept .1 .1 .0)), (lies .1 .0, omega (arith, lies .1 .1, windows .kept .1 .1 .1 .1 .1 .0))),
       (
-        (omega (arith, after .2, place .ensures .1), after .1),
+        (omega (arith, after .2, place .ensures .1, start .pre .1 .1 .0 .1), omega (arith, after .1)),
         λ _. record {
           first = first;
           second = second;
@@ -84,10 +85,9 @@ returns-3 c =
           up-redundant = windows .ensures .1 .1 read .1;
           high-normal = windows .ensures .1 .0 read .0;
           high-redundant = windows .ensures .1 .0 read .1;
-          stepped = advance .ensures .0;
-          put =
-              subst (λ (n : ℕ). PutAt (a .out .now) n (lineOf (takenAt normal redundant (windowed first second (a .p)))) (advance .last .1 .1 .0) (advance .result .next))
-              (place .ensures .0) (advance .ensures .1 .0);
+          advanced =
+              subst (λ (n : ℕ). AdvancedTo normal redundant (windowed first second (a .p)) (a .out .now) n (advance .last .1 .1 .0) (advance .result))
+              (place .ensures .0) (advance .ensures .0);
         },
       ),
     )

@@ -39,11 +39,11 @@ returns c =
     let rs = length (a .redundant .now) in
     let used = uses (a .normal .now) (a .redundant .now) (a .p) (start .pre .0) (taken .ensures) in
     let lies = lies-after ns rs (a .p) (c .stepped .result) (taken .result) used (start .pre .0) (c .stepped .ensures) in (
-      c .stepped .ensures ∙ ap (λ (t : Taken). steppedOf t (a .p)) (taken .ensures),
-      (
-        subst (λ (t : Taken). PutAt (a .out .now) (a .at) (lineOf t) (line .last .0) (line .result)) (taken .ensures) (line .ensures .0),
-        (lies .0, lies .1, line .ensures .1),
-      ),
+      record {
+        progress = c .stepped .ensures ∙ ap (λ (t : Taken). steppedOf t (a .p)) (taken .ensures);
+        put = subst (λ (t : Taken). PutAt (a .out .now) (a .at) (lineOf t) (line .last .0) (line .result)) (taken .ensures) (line .ensures .0);
+      },
+      (lies .0, lies .1, line .ensures .1),
     )
 
 pub advance-spec : {M : Type 1} → statement M
