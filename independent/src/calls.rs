@@ -12,9 +12,9 @@ pub const HEADER: &str = "RECORD call now bytes room = answer released written d
      phase n t_max e t_start t_off limit own_next_number period last_number peer_stamp arrival wait_start min max errors clock";
 
 /// What the out buffer holds before each call.
-const BEFORE: u8 = 0xA5;
+pub const BEFORE: u8 = 0xA5;
 
-fn record_text(record: &Record) -> String {
+pub fn record_text(record: &Record) -> String {
     let set = &record.settings;
     format!(
         "{} {} {} {} {} {} {} {} {} {} {} {} {} {} {} {} {}",
@@ -24,7 +24,7 @@ fn record_text(record: &Record) -> String {
 }
 
 /// Any record: mostly a valid one in any phase, sometimes closed with leftovers, sometimes faulty.
-fn some_record(random: &mut Random) -> Record {
+pub fn some_record(random: &mut Random) -> Record {
     let settings = if random.once_in(40) { craft::some_settings_out_of_range(random) } else { craft::some_settings(random) };
     let phase = if random.once_in(40) { random.pick(&[7, 8, 255]) } else { random.below(7) as u8 };
     let under = random.below(u64::from(settings.limit.max(1))) as u8;
@@ -49,7 +49,7 @@ fn some_record(random: &mut Random) -> Record {
 }
 
 /// An out buffer's length: on both sides of what each call asks.
-fn some_room(random: &mut Random, kind: u8, bytes: &[u8]) -> usize {
+pub fn some_room(random: &mut Random, kind: u8, bytes: &[u8]) -> usize {
     let asked = match kind {
         BEGIN => 19,
         RECEIVE => 25,
@@ -79,7 +79,7 @@ fn played(record: Record, crafted: &craft::Crafted, out: &mut [u8]) -> (Record, 
 }
 
 /// A record's bytes: its fields in the order of RECORD, big-endian, offsets in two's complement: 53 bytes.
-fn record_bytes(record: &Record) -> Vec<u8> {
+pub fn record_bytes(record: &Record) -> Vec<u8> {
     let set = &record.settings;
     let mut bytes = vec![record.phase];
     bytes.extend(set.n.to_be_bytes());
@@ -109,19 +109,23 @@ fn call_bytes(record: &Record, crafted: &craft::Crafted, room: usize) -> Vec<u8>
     bytes
 }
 
-/// The line of one call, and the record that it leaves; the out buffer past what is written must have stayed.
+/// An answer's words; the out buffer past what is written must have stayed.
+pub fn answer_text(answer: &Answer, out: &[u8], bytes: &[u8]) -> String {
+    let (written, stayed) = out.split_at(answer.written);
+    assert!(stayed.iter().all(|byte| *byte == BEFORE), "bytes past what is written changed");
+    let delivered = &bytes[answer.delivered.clone()];
+    // an empty part is written as one that starts at 0
+    let delivered_at = if delivered.is_empty() { 0 } else { answer.delivered.start };
+    format!("{} {} {} {delivered_at} {}", answer.number, u8::from(answer.released), hex(written), hex(delivered))
+}
+
+/// The line of one call, and the record that it leaves.
 fn line_of(record: Record, crafted: &craft::Crafted, room: usize) -> (String, Record) {
     let mut out = vec![BEFORE; room];
     let (after, answer) = played(record, crafted, &mut out);
-    let (written, stayed) = out.split_at(answer.written);
-    assert!(stayed.iter().all(|byte| *byte == BEFORE), "bytes past what is written changed");
-    let delivered = &crafted.bytes[answer.delivered.clone()];
-    // an empty part is written as one that starts at 0
-    let delivered_at = if delivered.is_empty() { 0 } else { answer.delivered.start };
     let line = format!(
-        "{} {} {} {} {room} = {} {} {} {} {} {}",
-        record_text(&record), call_name(crafted.kind), crafted.now, hex(&crafted.bytes), answer.number, u8::from(answer.released),
-        hex(written), delivered_at, hex(delivered), record_text(&after)
+        "{} {} {} {} {room} = {} {}",
+        record_text(&record), call_name(crafted.kind), crafted.now, hex(&crafted.bytes), answer_text(&answer, &out, &crafted.bytes), record_text(&after)
     );
     (line, after)
 }
@@ -137,7 +141,16 @@ fn some_trial(random: &mut Random, record: Record) -> (Vec<u8>, String, Record) 
 /// The line of the call at the front of a file's rest, and the rest after it; None where no whole call is there.
 pub fn given(rest: &[u8]) -> Option<(String, &[u8])> {
     let mut fields = Fields(rest);
-    let record = Record {
+    let record = record_of(&mut fields)?;
+    let (kind, now) = (fields.byte()?, fields.count()?);
+    let (room, length) = (usize::from(fields.number()?), usize::from(fields.number()?));
+    let crafted = craft::Crafted { kind, now, bytes: fields.bytes(length)?.to_vec() };
+    Some((line_of(record, &crafted, room).0, fields.0))
+}
+
+/// The record at the front of a file's rest.
+pub fn record_of(fields: &mut Fields) -> Option<Record> {
+    Some(Record {
         phase: fields.byte()?,
         settings: Settings {
             n: fields.number()?,
@@ -157,11 +170,7 @@ pub fn given(rest: &[u8]) -> Option<(String, &[u8])> {
         max: fields.count()? as i32,
         errors: fields.byte()?,
         clock: fields.count()?,
-    };
-    let (kind, now) = (fields.byte()?, fields.count()?);
-    let (room, length) = (usize::from(fields.number()?), usize::from(fields.number()?));
-    let crafted = craft::Crafted { kind, now, bytes: fields.bytes(length)?.to_vec() };
-    Some((line_of(record, &crafted, room).0, fields.0))
+    })
 }
 
 /// So many random calls, the bytes and the line of each: histories of calls, each on the record that the call before left, from a random record on.

@@ -242,17 +242,25 @@ fn some_received(random: &mut Random, record: &Record, now: u32) -> Vec<u8> {
     bytes
 }
 
-/// A random call for a record: begin where closed, receive most often else.
-pub fn some_call(random: &mut Random, record: &Record) -> Crafted {
+/// A kind of call for a record: begin where closed, receive most often else.
+fn some_kind(random: &mut Random, record: &Record) -> u8 {
     let kinds = if record.phase == connection::CLOSED {
         [BEGIN, BEGIN, BEGIN, BEGIN, BEGIN, BEGIN, BEGIN, BEGIN, BEGIN, BEGIN, BEGIN, RECEIVE, SEND, TICK, CLOSE, BEGIN]
     } else {
         [RECEIVE, RECEIVE, RECEIVE, RECEIVE, RECEIVE, RECEIVE, RECEIVE, RECEIVE, RECEIVE, RECEIVE, SEND, SEND, TICK, TICK, BEGIN, RECEIVE]
     };
-    let mut kind = random.pick(&kinds);
-    if random.once_in(60) {
-        kind = CLOSE;
-    }
+    let kind = random.pick(&kinds);
+    if random.once_in(60) { CLOSE } else { kind }
+}
+
+/// A random call for a record.
+pub fn some_call(random: &mut Random, record: &Record) -> Crafted {
+    let kind = some_kind(random, record);
+    some_call_of(random, record, kind)
+}
+
+/// A random call of that kind for a record.
+pub fn some_call_of(random: &mut Random, record: &Record, kind: u8) -> Crafted {
     let now = some_now(random, record);
     let bytes = match kind {
         BEGIN => some_begin(random),

@@ -1,9 +1,11 @@
-//! Files of single inputs that someone else made, in the formats that the makers of random input write, and of packets to be written.
+//! Files of single inputs that someone else made, in the formats that the makers of random input write.
 
 use crate::calls;
 use crate::messages;
-use crate::packet::{self, Link, Packet};
-use crate::streams::{self, hex};
+use crate::packets;
+use crate::streams;
+use crate::tables;
+use crate::writes;
 
 /// Big-endian fields, taken from the front of what is left.
 pub struct Fields<'a>(pub &'a [u8]);
@@ -23,26 +25,13 @@ impl<'a> Fields<'a> {
         Some(u16::from_be_bytes(self.bytes(2)?.try_into().ok()?))
     }
 
+    pub fn long(&mut self) -> Option<u64> {
+        Some(u64::from_be_bytes(self.bytes(8)?.try_into().ok()?))
+    }
+
     pub fn count(&mut self) -> Option<u32> {
         Some(u32::from_be_bytes(self.bytes(4)?.try_into().ok()?))
     }
-}
-
-/// What the out buffer holds before a packet is written.
-const BEFORE: u8 = 0xA5;
-
-/// A packet to be written: link 1 (1 normal, 0 redundant), version 1, application type 1, number 2, packet type 1, room 2 (the out buffer's
-/// length), length 2, user data. Its line: the answer, the bytes written; `changed` where a byte past them did not stay.
-fn written(rest: &[u8]) -> Option<(String, &[u8])> {
-    let mut fields = Fields(rest);
-    let link = if fields.byte()? == Link::Normal.flag() { Link::Normal } else { Link::Redundant };
-    let (version, application, number, kind) = (fields.byte()?, fields.byte()?, fields.number()?, fields.byte()?);
-    let (room, length) = (usize::from(fields.number()?), usize::from(fields.number()?));
-    let data = fields.bytes(length)?;
-    let mut out = vec![BEFORE; room];
-    let (answer, size) = packet::write(link, &Packet { version, application, number, kind, data }, &mut out);
-    let stayed = out[size..].iter().all(|byte| *byte == BEFORE);
-    Some((format!("{answer} {}{}", hex(&out[..size]), if stayed { "" } else { " changed" }), fields.0))
 }
 
 fn message(rest: &[u8]) -> Option<(String, &[u8])> {
@@ -65,8 +54,10 @@ pub fn lines(kind: &str, file: &[u8]) -> Result<Vec<String>, String> {
             "steps" => streams::given(rest).map(|(trial, rest)| (trial.printed(), rest)),
             "messages" => message(rest),
             "calls" => calls::given(rest).map(|(line, rest)| (came_out(&line), rest)),
-            "packets" => written(rest),
-            other => return Err(format!("{other}: not steps, messages, calls or packets")),
+            "packets" => packets::given(rest),
+            "writes" => writes::given(rest),
+            "tables" => tables::given(rest),
+            other => return Err(format!("{other}: not steps, messages, calls, packets, writes or tables")),
         };
         let Some((line, after)) = next else {
             return Err(format!("input {} is cut", lines.len() + 1));

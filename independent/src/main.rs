@@ -9,12 +9,15 @@ mod links;
 mod message;
 mod messages;
 mod packet;
+mod packets;
 mod random;
 mod replay;
 mod selftest;
 mod streams;
 mod table;
+mod tables;
 mod traces;
+mod writes;
 
 use links::Role;
 use std::io::{self, BufWriter, Read, Write};
@@ -28,9 +31,12 @@ independent types                     the constant table of packet types
 independent streams SEED COUNT DIR    random pairs of link bytes
 independent steps SEED COUNT [FILE]   random single steps; with FILE, what goes in is written there and only what comes out is printed
 independent messages SEED COUNT [FILE]  rounds of random messages, likewise
+independent packets SEED COUNT [FILE]   random packets to be written, likewise
+independent writes SEED COUNT [FILE]    random messages to be written, likewise
 independent calls SEED COUNT [FILE]   random single connection calls, likewise
+independent tables SEED COUNT [FILE]    random calls on tables of 0, 1, 2, 64 and 65 records, likewise
 independent traces SEED COUNT DIR     random traces
-independent given steps|messages|calls|packets FILE  what comes out for the inputs of a file
+independent given steps|messages|calls|packets|writes|tables FILE  what comes out for the inputs of a file
 independent selftest                  the program's own tests";
 
 fn main() -> ExitCode {
@@ -72,6 +78,12 @@ fn run(words: &[&str]) -> Result<bool, String> {
         ["messages", seed, count, name] => both(name, messages(seed, count)?.map(|bytes| (messages::file_bytes(&bytes), given::came_out(&messages::line_of(&bytes))))),
         ["calls", seed, count] => print_lines(calls::HEADER, calls(seed, count)?.map(|(_, line)| line)),
         ["calls", seed, count, name] => both(name, calls(seed, count)?.map(|(bytes, line)| (bytes, given::came_out(&line)))),
+        ["packets", seed, count] => print_lines(packets::HEADER, packets(seed, count)?.map(|(_, line)| line)),
+        ["packets", seed, count, name] => both(name, packets(seed, count)?.map(|(bytes, line)| (bytes, given::came_out(&line)))),
+        ["writes", seed, count] => print_lines(writes::HEADER, writes(seed, count)?.map(|(_, line)| line)),
+        ["writes", seed, count, name] => both(name, writes(seed, count)?.map(|(bytes, line)| (bytes, given::came_out(&line)))),
+        ["tables", seed, count] => print_lines(tables::HEADER, tables(seed, count)?.map(|(_, line)| line)),
+        ["tables", seed, count, name] => both(name, tables(seed, count)?.map(|(bytes, line)| (bytes, given::came_out(&line)))),
         ["traces", seed, count, folder] => traces_to(number(seed)?, number(count)? as usize, Path::new(folder)),
         ["given", kind, name] => print_all(given::lines(kind, &file(name)?)?.into_iter().map(|line| line + "\n")),
         ["selftest"] => {
@@ -97,6 +109,18 @@ fn messages(seed: &str, count: &str) -> Result<impl Iterator<Item = Vec<u8>>, St
 
 fn calls(seed: &str, count: &str) -> Result<impl Iterator<Item = (Vec<u8>, String)>, String> {
     Ok(calls::calls(number(seed)?, number(count)? as usize))
+}
+
+fn packets(seed: &str, count: &str) -> Result<impl Iterator<Item = (Vec<u8>, String)>, String> {
+    Ok(packets::packets(number(seed)?, number(count)? as usize))
+}
+
+fn writes(seed: &str, count: &str) -> Result<impl Iterator<Item = (Vec<u8>, String)>, String> {
+    Ok(writes::writes(number(seed)?, number(count)? as usize))
+}
+
+fn tables(seed: &str, count: &str) -> Result<impl Iterator<Item = (Vec<u8>, String)>, String> {
+    Ok(tables::tables(number(seed)?, number(count)? as usize))
 }
 
 fn file(name: &str) -> Result<Vec<u8>, String> {

@@ -135,3 +135,54 @@ pub fn write(message: &Message, out: &mut [u8]) -> usize {
     out[..bytes.len()].copy_from_slice(&bytes);
     bytes.len()
 }
+
+/// The fields that a message may have, each given, whatever its type.
+#[derive(Clone, Copy, PartialEq, Eq, Debug)]
+pub struct Parts {
+    pub kind: u8,
+    pub number: u16,
+    pub stamp: u32,
+    pub last_peer_stamp: u32,
+    pub own_count_at_arrival: u32,
+    pub period: u32,
+    pub min: i32,
+    pub max: i32,
+    pub check: u8,
+    pub said_length: u32,
+}
+
+/// The total of a message of that type with so many bytes of data; none where 01 lists none.
+pub fn total_of(kind: u8, data: usize) -> Option<usize> {
+    let total = match kind {
+        START | ANSW1 => 19,
+        ANSW2 => 15,
+        EST => 25,
+        END => 16,
+        _ => HEADER + data,
+    };
+    Some(total).filter(|total| total_listed(kind, *total))
+}
+
+/// Writes a message from its fields, the data where its type has some, or none where it would be malformed, where the data has another length than is said, or where
+/// the out buffer is too short. A check byte over 1 is refused in every type.
+pub fn write_parts(parts: &Parts, data: &[u8], out: &mut [u8]) -> usize {
+    let after = match parts.kind {
+        START => After::Start { period: parts.period },
+        ANSW1 => After::Answ1 { period: parts.period },
+        ANSW2 => After::Answ2,
+        EST => After::Est { min: parts.min, max: parts.max },
+        END => After::End { valid: parts.check == 1 },
+        APPLICATION => After::Application { data },
+        _ => return 0,
+    };
+    let Some(total) = total_of(parts.kind, data.len()) else {
+        return 0;
+    };
+    let later_stamps = parts.last_peer_stamp != 0 || parts.own_count_at_arrival != 0;
+    let said = parts.kind != APPLICATION || parts.said_length as usize == data.len();
+    if parts.kind == START && later_stamps || parts.check > 1 || !said || out.len() < total {
+        return 0;
+    }
+    let (number, stamp) = (parts.number, parts.stamp);
+    write(&Message { number, stamp, last_peer_stamp: parts.last_peer_stamp, own_count_at_arrival: parts.own_count_at_arrival, after }, out)
+}

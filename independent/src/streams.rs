@@ -342,7 +342,8 @@ impl Trial {
         };
         let start = if step.answer == 0 { place + packet::HEADER } else { 0 };
         let first = format!("{} {} {} {} {} {}", step.link.name(), step.answer, step.used, taken.kind, taken.number, taken.data.len());
-        format!("{first}\nstate {} {} {} {start}", state_text(&after), taken.version, taken.application)
+        let second = format!("state {} {} {} {start}", state_text(&after), taken.version, taken.application);
+        format!("{first}\n{second}\ndata {}", hex(taken.data))
     }
 }
 

@@ -1,14 +1,18 @@
-// single steps|packets|messages|calls FILE: takes the inputs of a file one after the other, each by itself, and prints what comes of it. It is there to be
+// single steps|packets|messages|writes|calls|tables FILE: takes the inputs of a file one after the other, each by itself, and prints what comes of it. It is there to be
 // compared with the independent program, which makes such files.
 ghost use mathlib.Core.Path.{_≡_};
 ghost use Prim.Native.Nat.{_+_, _≤_};
 ghost use lib.ListN.{length};
+ghost use Rattle.single.specs.Sizes.{mostLines};
 ghost use Rattle.window.specs.Window.{Within, usedOf};
 
 mod one_call;
 mod one_message;
 mod one_packet;
+mod one_record;
 mod one_step;
+mod one_table;
+mod one_write;
 
 use text::Chosen;
 use window::Read;
@@ -24,6 +28,8 @@ enum Kind {
     Packet,
     Message,
     Call,
+    Table,
+    Write,
     None,
 }
 
@@ -46,27 +52,33 @@ fn kind_of(word: &[u8]) -> Kind {
         Chosen::Neither => match text::choose(word, b"messages", b"calls") {
             Chosen::First => Kind::Message,
             Chosen::Second => Kind::Call,
-            Chosen::Neither => Kind::None,
+            Chosen::Neither => match text::choose(word, b"tables", b"writes") {
+                Chosen::First => Kind::Table,
+                Chosen::Second => Kind::Write,
+                Chosen::Neither => Kind::None,
+            },
         },
     }
 }
 
 // The input at the front of s, if it is there whole, and its lines.
 fn input_at(kind: Kind, s: &[u8], out: &mut [u8]) -> Done
-    requires { ⌜ 8192 ≤ length (now out) ⌝ }
-    ensures { λ r. ⌜ (r .next ≤ 8192) × (r .used ≤ length (now (s .entry))) ⌝ }
+    requires { ⌜ mostLines ≤ length (now out) ⌝ }
+    ensures { λ r. ⌜ (r .next ≤ mostLines) × (r .used ≤ length (now (s .entry))) ⌝ }
 {
     match kind {
         Kind::Step => one_step::step_at(s, out),
         Kind::Packet => one_packet::packet_at(s, out),
         Kind::Message => one_message::message_at(s, out),
         Kind::Call => one_call::call_at(s, out),
+        Kind::Table => one_table::table_at(s, out),
+        Kind::Write => one_write::write_at(s, out),
         Kind::None => Done { next: 0, used: 0 },
     }
 }
 
-// Refills a window that is low.
-fn topped_up(fd: i32, buffer: &mut [u8], window: Window) -> Refilled
+// Refills a window that is low, or says why the file can't be read.
+fn topped_up(fd: i32, name: &[u8], buffer: &mut [u8], window: Window) -> Refilled
     requires { ⌜ Within window (length (now buffer)) ⌝ }
     ensures { λ r. ⌜ Within (r .window) (length (now (buffer .entry))) ⌝ }
 {
@@ -77,58 +89,86 @@ fn topped_up(fd: i32, buffer: &mut [u8], window: Window) -> Refilled
             last: Read { room: 0, got: 0 },
         };
     }
-    window::refill(fd, buffer, window)
+    let refilled = window::refill(fd, buffer, window);
+    if refilled.failed {
+        os::fail(name);
+    }
+    refilled
 }
 
-// Prints an input's lines and uses the input up. It does not go on where there was none, or something could not be read or written.
-fn printed(out: &[u8], topped: Refilled, done: Done) -> Turned
-    requires { ⌜ done .next ≤ length (now out) ⌝ }
-    requires { ⌜ topped .window .from + done .used ≤ topped .window .to ⌝ }
-    ensures { λ r. ⌜ r .window ≡ usedOf (done .used) (topped .window) ⌝ }
-    ensures { λ r. ⌜ Within (r .window) (topped .window .to) ⌝ }
-{
-    let whole = text::print(out, done.next);
-    let lent = topped.window;
-    let after = lent.used(done.used);
-    if topped.failed {
-        return Turned {
-            window: after,
-            goes_on: false,
-        };
+// Says that bytes are left which are no whole input.
+fn say_cut(left: usize) {
+    if left > 0 {
+        io::write_all(
+            libc::STDERR_FILENO,
+            b"single: the file ends within an input, or has one that is too long\n",
+        );
     }
+}
+
+// Prints an input's lines, or says why it can't.
+fn written(out: &[u8], next: usize) -> bool
+    requires { ⌜ next ≤ length (now out) ⌝ }
+{
+    let whole = text::print(out, next);
+    if !whole {
+        os::fail(b"standard output");
+    }
+    whole
+}
+
+// The input at the front of a window, its lines, and the window with the input used up.
+fn taken(kind: Kind, buffer: &[u8], out: &mut [u8], window: Window) -> Turned
+    requires { ⌜ Within window (length (now buffer)) × (mostLines ≤ length (now out)) ⌝ }
+    ensures { λ r. ⌜ Within (r .window) (length (now (buffer .entry))) ⌝ }
+{
+    let from = window.from;
+    let to = window.to;
+    let done = input_at(kind, &buffer[from..to], out);
     if done.used == 0 {
+        say_cut(to - from);
         return Turned {
-            window: after,
+            window,
             goes_on: false,
         };
     }
     Turned {
-        window: after,
-        goes_on: whole,
+        window: window.used(done.used),
+        goes_on: written(out, done.next),
     }
 }
 
-// The next input of the file and its lines.
-fn turn(kind: Kind, fd: i32, buffer: &mut [u8], out: &mut [u8], window: Window) -> Turned
-    requires { ⌜ Within window (length (now buffer)) × (8192 ≤ length (now out)) ⌝ }
+// The next input of the file and its lines. It does not go on where there is none, or something could not be read or written.
+fn turn(
+    kind: Kind,
+    fd: i32,
+    name: &[u8],
+    buffer: &mut [u8],
+    out: &mut [u8],
+    window: Window,
+) -> Turned
+    requires { ⌜ Within window (length (now buffer)) × (mostLines ≤ length (now out)) ⌝ }
     ensures { λ r. ⌜ Within (r .window) (length (now (buffer .entry))) ⌝ }
 {
-    let topped = topped_up(fd, buffer, window);
+    let topped = topped_up(fd, name, buffer, window);
     let lent = topped.window;
-    let from = lent.from;
-    let to = lent.to;
-    let done = input_at(kind, &buffer[from..to], out);
-    printed(out, topped, done)
+    if topped.failed {
+        return Turned {
+            window: lent,
+            goes_on: false,
+        };
+    }
+    taken(kind, buffer, out, lent)
 }
 
 // The inputs of a file, one after the other. A proved loop has to end, so it counts its turns down, from a number that no run uses up.
-fn all(kind: Kind, fd: i32, buffer: &mut [u8], out: &mut [u8])
-    requires { ⌜ 8192 ≤ length (now out) ⌝ }
+fn all(kind: Kind, fd: i32, name: &[u8], buffer: &mut [u8], out: &mut [u8])
+    requires { ⌜ mostLines ≤ length (now out) ⌝ }
 {
     let mut window = Window::empty();
     let mut turns = u64::MAX;
     while turns > 0 {
-        let turned = turn(kind, fd, buffer, out, window);
+        let turned = turn(kind, fd, name, buffer, out, window);
         if !turned.goes_on {
             return;
         }
@@ -137,10 +177,10 @@ fn all(kind: Kind, fd: i32, buffer: &mut [u8], out: &mut [u8])
     }
 }
 
-fn run(kind: Kind, fd: i32) {
+fn run(kind: Kind, fd: i32, name: &[u8]) {
     let mut buffer = io::large_buffer();
     let mut out = io::large_buffer();
-    all(kind, fd, &mut buffer, &mut out);
+    all(kind, fd, name, &mut buffer, &mut out);
 }
 
 // What the first argument asks for.
@@ -150,21 +190,44 @@ fn asked() -> Kind {
     kind_of(&word[..size])
 }
 
-// Opens the file that the second argument names; or says why it can't, and answers a number below 0.
-fn opened() -> i32 {
-    let mut name = io::buffer();
-    let size = os::arg(2, &mut name);
-    let fd = os::open_read(&name[..size]);
+// Says why the file can't be read: by its name, or where the name is empty or too long by the word that stands for it.
+fn fail(name: &[u8]) {
+    if name.len() == 0 {
+        os::fail(b"FILE");
+        return;
+    }
+    os::fail(name);
+}
+
+// Opens the file that an argument names, just after the argument was read; or says why it can't, and answers a number below 0.
+fn opened(name: &[u8]) -> i32 {
+    if os::errno() != 0 {
+        fail(name);
+        return -1;
+    }
+    let fd = os::open_read(name);
     if fd < 0 {
-        os::fail(&name[..size]);
+        fail(name);
     }
     fd
+}
+
+// Opens the file that the second argument names, and takes its inputs.
+fn run_named(kind: Kind) {
+    let mut name = io::buffer();
+    let size = os::arg(2, &mut name);
+    let fd = opened(&name[..size]);
+    if fd < 0 {
+        return;
+    }
+    run(kind, fd, &name[..size]);
+    libc::close(fd);
 }
 
 fn usage() {
     io::write_all(
         libc::STDERR_FILENO,
-        b"single: the arguments are steps, packets, messages or calls, and FILE\n",
+        b"single: the arguments are steps, packets, messages, writes, calls or tables, and FILE\n",
     );
 }
 
@@ -178,10 +241,5 @@ fn main() {
         usage();
         return;
     }
-    let fd = opened();
-    if fd < 0 {
-        return;
-    }
-    run(kind, fd);
-    libc::close(fd);
+    run_named(kind);
 }

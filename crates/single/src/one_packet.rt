@@ -2,6 +2,7 @@
 // out buffer's length), length 2, user data.
 ghost use Prim.Native.Nat.{_+_, _≤_};
 ghost use lib.ListN.{length};
+ghost use Rattle.single.specs.Sizes.{mostLines};
 use crate::Done;
 use packet::Written;
 
@@ -34,8 +35,8 @@ fn write_packet(s: &[u8], end: usize, lent: &mut [u8], room: usize) -> Written
 // That packet, and its line.
 fn put_packet(out: &mut [u8], s: &[u8], end: usize, lent: &mut [u8], room: usize) -> usize
     requires { ⌜ (10 ≤ end) × (end ≤ length (now s)) ⌝ }
-    requires { ⌜ (room ≤ length (now lent)) × (length (now lent) ≤ 2048) × (8192 ≤ length (now out)) ⌝ }
-    ensures { λ r. ⌜ r ≤ 8192 ⌝ }
+    requires { ⌜ (room ≤ length (now lent)) × (length (now lent) ≤ 2048) × (mostLines ≤ length (now out)) ⌝ }
+    ensures { λ r. ⌜ r ≤ mostLines ⌝ }
 {
     let made = write_packet(s, end, lent, room);
     let after_answer = text::put_decimal(out, 0, made.answer as u64);
@@ -45,8 +46,8 @@ fn put_packet(out: &mut [u8], s: &[u8], end: usize, lent: &mut [u8], room: usize
 
 // The packet at the front of s, if it is there whole.
 pub fn packet_at(s: &[u8], out: &mut [u8]) -> Done
-    requires { ⌜ 8192 ≤ length (now out) ⌝ }
-    ensures { λ r. ⌜ (r .next ≤ 8192) × (r .used ≤ length (now (s .entry))) ⌝ }
+    requires { ⌜ mostLines ≤ length (now out) ⌝ }
+    ensures { λ r. ⌜ (r .next ≤ mostLines) × (r .used ≤ length (now (s .entry))) ⌝ }
 {
     if s.len() < FIELDS {
         return Done { next: 0, used: 0 };

@@ -1,13 +1,17 @@
-// One step over two links, at a state and places of its own, and its two lines. A step in the file: flags 1 (1 normal link up, 2 redundant link up, 4 responder,
+// One step over two links, at a state and places of its own, and its three lines. A step in the file: flags 1 (1 normal link up, 2 redundant link up, 4 responder,
 // 8 strict, 16 first packet), last number 2, normal place 4, redundant place 4, normal size 2, redundant size 2, the bytes of both links.
-ghost use Prim.Native.Nat.{_+_, _≤_, _<_};
+ghost use Prim.Native.Nat.{_+_, _*_, _≤_, _<_};
 ghost use lib.ListN.{length};
+ghost use Rattle.single.specs.Sizes.{mostLines};
 use crate::Done;
 use links::State;
 use links::Taken;
 
 // The fields before the links' bytes.
 const FIELDS: usize = 15;
+
+// The most bytes of a link.
+const MOST_LINK: usize = 7168;
 
 fn bit(flags: u8, one: u8) -> bool
     requires { ⌜ 0 < one ⌝ }
@@ -55,20 +59,31 @@ fn put_packet(out: &mut [u8], at: usize, version: u8, application: u8, start: us
     text::put(out, after_start, b"\n")
 }
 
-// Both lines of a step: that of `cut`, then the state, version, application type and start.
-fn put_step(out: &mut [u8], at: usize, taken: Taken) -> usize
-    requires { ⌜ at + 300 ≤ length (now out) ⌝ }
-    ensures { λ r. ⌜ r ≤ at + 300 ⌝ }
+// The user data that is handed up, and the end of the line.
+fn put_data(out: &mut [u8], at: usize, data: &[u8]) -> usize
+    requires { ⌜ at + 7 + 2 * length (now «data») ≤ length (now out) ⌝ }
+    ensures { λ r. ⌜ r ≤ at + 7 + 2 * length (now («data» .entry)) ⌝ }
+{
+    let word = text::put(out, at, b"data");
+    let after_data = line::put_bytes(out, word, data);
+    text::put(out, after_data, b"\n")
+}
+
+// The lines of a step: that of `cut`, then the state, version, application type and start, then the user data.
+fn put_step(out: &mut [u8], at: usize, taken: Taken, data: &[u8]) -> usize
+    requires { ⌜ at + 307 + 2 * length (now «data») ≤ length (now out) ⌝ }
+    ensures { λ r. ⌜ r ≤ at + 307 + 2 * length (now («data» .entry)) ⌝ }
 {
     let after_line = recording::put_line(out, at, taken);
     let after_state = put_state(out, after_line, taken.state);
-    put_packet(
+    let after_packet = put_packet(
         out,
         after_state,
         taken.version,
         taken.application,
         taken.start,
-    )
+    );
+    put_data(out, after_packet, data)
 }
 
 // The step at the front of s, which ends there; its links part at `middle`.
@@ -87,22 +102,48 @@ fn taken_at(s: &[u8], middle: usize, end: usize) -> Taken
     )
 }
 
+// The user data that a step over two links hands up.
+fn data_of<'a>(normal: &'a [u8], redundant: &'a [u8], taken: Taken) -> &'a [u8]
+    requires { ⌜ (length (now normal) ≤ 7168) × (length (now redundant) ≤ 7168) ⌝ }
+    ensures { λ r. ⌜ length (now r) ≤ 7168 ⌝ }
+{
+    links::user_data(normal, redundant, taken)
+}
+
+// That step, and its lines.
+fn put_taken(out: &mut [u8], at: usize, s: &[u8], middle: usize, end: usize) -> usize
+    requires { ⌜ (15 ≤ middle) × (middle ≤ 15 + 7168) × (middle ≤ end) × (end ≤ middle + 7168) × (end ≤ length (now s)) ⌝ }
+    requires { ⌜ at + 14643 ≤ length (now out) ⌝ }
+    ensures { λ r. ⌜ r ≤ at + 14643 ⌝ }
+{
+    let taken = taken_at(s, middle, end);
+    let data = data_of(&s[FIELDS..middle], &s[middle..end], taken);
+    put_step(out, at, taken, data)
+}
+
 // The step at the front of s, if it is there whole.
 pub fn step_at(s: &[u8], out: &mut [u8]) -> Done
-    requires { ⌜ 300 ≤ length (now out) ⌝ }
-    ensures { λ r. ⌜ (r .next ≤ 300) × (r .used ≤ length (now (s .entry))) ⌝ }
+    requires { ⌜ mostLines ≤ length (now out) ⌝ }
+    ensures { λ r. ⌜ (r .next ≤ mostLines) × (r .used ≤ length (now (s .entry))) ⌝ }
 {
     if s.len() < FIELDS {
         return Done { next: 0, used: 0 };
     }
-    let middle = FIELDS + field::read16(s, 11) as usize;
-    let end = middle + field::read16(s, 13) as usize;
+    let normal = field::read16(s, 11) as usize;
+    let redundant = field::read16(s, 13) as usize;
+    if MOST_LINK < normal {
+        return Done { next: 0, used: 0 };
+    }
+    if MOST_LINK < redundant {
+        return Done { next: 0, used: 0 };
+    }
+    let middle = FIELDS + normal;
+    let end = middle + redundant;
     if s.len() < end {
         return Done { next: 0, used: 0 };
     }
-    let taken = taken_at(s, middle, end);
     Done {
-        next: put_step(out, 0, taken),
+        next: put_taken(out, 0, s, middle, end),
         used: end,
     }
 }

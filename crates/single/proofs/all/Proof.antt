@@ -8,11 +8,11 @@ use Rattle.single.proofs.all.Statement.{statement}
 use Rattle.single.proofs.all.Tie as tie
 
 abbrev Inv-loop : tie.InvT-loop
-Inv-loop kind fd buffer₀ out₀ window₀ turns₀ buffer out window turns =
+Inv-loop kind fd name buffer₀ out₀ window₀ turns₀ buffer out window turns =
     (length buffer ≡ length buffer₀) × (length out ≡ length out₀) × Within window (length buffer₀)
 
 abbrev μ-loop : tie.MeasureT-loop
-μ-loop kind fd buffer₀ out₀ window₀ turns₀ buffer out window turns = turns
+μ-loop kind fd name buffer₀ out₀ window₀ turns₀ buffer out window turns = turns
 
 empty-requires : tie.Need-empty-requires Inv-loop μ-loop
 empty-requires c κs = tt
@@ -23,13 +23,13 @@ loop-holds c = (refl, refl, none-within _ _ (c .empty .ensures))
 turn-requires : tie.Need-turn-requires Inv-loop μ-loop
 turn-requires c κs =
     let inv = c .before .before .before .loop .inv in
-    ((inv .2 .0, omega (arith, inv .2 .1, inv .0)), omega (arith, c .before .before .before .before .before .before .before .pre, inv .1))
+    ((inv .2 .0, omega (arith, inv .2 .1, inv .0)), omega (arith, c .before .before .before .before .before .before .before .before .pre, inv .1))
 
 same-length : tie.Need-same-length Inv-loop μ-loop
-same-length c = c .before .before .before .before .before .before .turn .kept .1 .1 .0 ∙ c .before .before .before .before .before .before .before .before .before .before .loop .inv .0
+same-length c = c .before .before .before .before .before .before .turn .kept .1 .1 .1 .0 ∙ c .before .before .before .before .before .before .before .before .before .before .loop .inv .0
 
 same-length-2 : tie.Need-same-length-2 Inv-loop μ-loop
-same-length-2 c = c .before .before .before .before .before .before .turn .kept .1 .1 .1 .0 ∙ c .before .before .before .before .before .before .before .before .before .before .loop .inv .1
+same-length-2 c = c .before .before .before .before .before .before .turn .kept .1 .1 .1 .1 .0 ∙ c .before .before .before .before .before .before .before .before .before .before .loop .inv .1
 
 returns : tie.Need-returns Inv-loop μ-loop
 returns c = tt
@@ -44,7 +44,7 @@ loop-again : tie.Need-loop-again Inv-loop μ-loop
 loop-again c =
     let turned = c .before .before .before .before .before .before .before .turn in
     let inv = c .before .before .before .before .before .before .before .before .before .before .before .loop .inv in
-    (turned .kept .1 .1 .0 ∙ inv .0, turned .kept .1 .1 .1 .0 ∙ inv .1, (turned .ensures .0, omega (arith, turned .ensures .1, inv .0)))
+    (turned .kept .1 .1 .1 .0 ∙ inv .0, turned .kept .1 .1 .1 .1 .0 ∙ inv .1, (turned .ensures .0, omega (arith, turned .ensures .1, inv .0)))
 
 same-length-3 : tie.Need-same-length-3 Inv-loop μ-loop
 same-length-3 c = c .before .loop .inv .0

@@ -2,7 +2,7 @@
 use mathlib.Core.Path.{ap}
 use native.Mathlib.Omega.{arith}
 use lib.ListN.{length}
-use Rattle.single.proofs.Delivered.{no-longer}
+use Rattle.single.proofs.Parts.{no-longer}
 use borrow.Author.Needs.{needs}
 use Rattle.single.proofs.one_call.put_delivered.Statement.{statement}
 use Rattle.single.proofs.one_call.put_delivered.Tie as tie
