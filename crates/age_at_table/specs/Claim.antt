@@ -1,4 +1,4 @@
--- Demand 3 at the table: of a receive on a slot, as the host calls it, and of the bytes that the host gets.
+-- DEMAND-3 at the table: of a receive on a slot, as the host calls it, and of the bytes that the host gets.
 use Prim.Native.Nat.{ℕ, _+_, _^_, _<_}
 use mathlib.Core.Path.{_≡_}
 use mathlib.Core.List.{List}
@@ -27,7 +27,7 @@ HandsUpAtTable =
     (table : List Connection) (slot : ℕ) (now : Count) (message out : List ℕ)
     → HandsUp (recordAt table slot) message (answerTo table slot (receive now message out) .number) (answerTo table slot (receive now message out) .delivered)
 
--- demand 3 of one such receive with our count as its now, where a is the answer that the host gets
+-- DEMAND-3 of one such receive with our count as its now, where a is the answer that the host gets
 pub record ClaimAtTable (W : World) (began : W .Moment) (j role : ℕ) (settings : Settings) (log : List (Ours W)) (last : W .Moment) (c : Connection)
     (u : W .Moment) (message : List ℕ) (a : Answer) (h : Header) (m : Judged W began log u h) : Type 0 where
   pub same-settings : c .settings ≡ settings

@@ -1,4 +1,4 @@
--- Demand 3: what the age of a judged message says of how old it truly is.
+-- DEMAND-3: what the age of a judged message says of how old it truly is.
 use Prim.Native.Nat.{ℕ, _+_, _-_, _^_, _<_}
 use mathlib.Core.Path.{_≡_}
 use mathlib.Core.Bool.{true}
@@ -24,11 +24,11 @@ use Rattle.calls.specs.Promises.{deliversTo}
 use Rattle.true_age.specs.Clocks.{World, InBand, countOf}
 use Rattle.true_age.specs.History.{Ours, Written, Judged, History}
 
--- "OffsetStart for an initiator, OffsetAnsw1 for a responder"
+-- the first message that a role writes: OffsetStart of an initiator, OffsetAnsw1 of a responder
 abbrev pub ownType : ℕ → ℕ
 ownType role = when eqb role 0 answer 1 else 2
 
--- "our own set-up message whose reported arrival gave our offset": it is the first that we wrote on this connection
+-- the message of ours that gave the offset: the first that we wrote on this connection
 pub record OwnSetUp (W : World) (began : W .Moment) (role : ℕ) (log : List (Ours W)) (t : W .Moment) (c : Connection) : Type 0 where
   pub ours : Ours W
   pub first : Written W 0 ours log
@@ -39,15 +39,15 @@ pub record OwnSetUp (W : World) (began : W .Moment) (role : ℕ) (log : List (Ou
   pub stamped : ours .header .stamp ≡ countOf (W .ours (ours .at))
   pub gave : c .min ≡ offsetBetween (ours .header .stamp) (countOf (W .peers (W .arrived 0)))
 
--- d: "the transit, from stamp to arrival on the peer's count"
+-- d: how long it took to arrive, on the peer's count
 abbrev pub transit : (W : World) → Ours W → ℕ
 transit W ours = W .peers (W .arrived 0) - W .peers (ours .at)
 
--- "true age taken on our count", from where the peer sent it to where we judge it
+-- the true age: our count, from where the peer sent the message to where we judge it
 abbrev pub trueAge : (W : World) (sent taken : W .Moment) → ℕ
 trueAge W sent taken = W .ours taken - W .ours sent
 
--- "a message's computed age is at least its true age + E - J + d and at most its true age + E + J + d"
+-- DEMAND-3: how far the age can lie from the true age. SHUT-2: a box to which every message is fresh or of age 0 misses the lower bound
 pub record Bounds (true-age e j d : ℕ) (age : ℤ) : Type 0 where
   pub least : (pos true-age +ℤ pos e -ℤ pos j +ℤ pos d) ≤ℤ age
   pub most : age ≤ℤ (pos true-age +ℤ pos e +ℤ pos j +ℤ pos d)
@@ -59,11 +59,11 @@ pub record AgeClaim (settings : Settings) (true-age j d : ℕ) (age : ℤ) (c : 
   pub fresh-by-age : deliversTo c k ≡ true → verdictOf age (settings .«t_max») ≡ Fresh
   pub late-by-age : k ≡ 205 → verdictOf age (settings .«t_max») ≡ Late
   pub future-by-age : k ≡ 206 → verdictOf age (settings .«t_max») ≡ Future
-  -- "no such message handed up is truly older than T_max - E + J - d"
+  -- the oldest that is handed up
   pub handed-up : deliversTo c k ≡ true → pos true-age ≤ℤ (pos (settings .«t_max») -ℤ pos (settings .e) +ℤ pos j -ℤ pos d)
-  -- "late is given to one only when true age + E + J + d exceeds T_max"
+  -- where 205 can be given
   pub late : k ≡ 205 → settings .«t_max» < true-age + settings .e + j + d
-  -- and 206 only when true age + E + d is under J
+  -- where 206 can be given
   pub future : k ≡ 206 → true-age + settings .e + d < j
 
 -- What the caller gets of a message that the record c answers with k and so many delivered bytes: with a 0 or a 204 of an open record all its bytes from
@@ -72,20 +72,20 @@ pub record HandsUp (c : Connection) (message : List ℕ) (k delivered : ℕ) : T
   pub count : delivered ≡ (when deliversTo c k answer length (dataOf message) else 0)
   pub bytes : deliveredOf message delivered ≡ (when deliversTo c k answer dataOf message else [])
 
--- demand 3, of the next receive on an open record, at a moment u: m is what is supposed of its message
+-- DEMAND-3, of the next receive on an open record, at a moment u: m is what is supposed of its message. OPEN-3: the age is the one by which receive judges
 pub record Claim (W : World) (began : W .Moment) (j role : ℕ) (settings : Settings) (log : List (Ours W)) (t : W .Moment) (c : Connection)
     (u : W .Moment) (message : List ℕ) (room : ℕ) (h : Header) (m : Judged W began log u h) : Type 0 where
   -- E and T_max are the ones configured at begin
   pub same-settings : c .settings ≡ settings
   pub own : OwnSetUp W began role log t c
-  -- "with true age + E + J + d below 2^31"
+  -- AGE-6: up to 2^31
   pub age : (first : Ours W) → Written W 0 first log → trueAge W (m .sent) u + settings .e + j + transit W first < 2 ^ 31
       → AgeClaim settings (trueAge W (m .sent) u) j (transit W first) (messageAge c (countOf (W .ours u)) h)
       c (receiveOutcome c (countOf (W .ours u)) message room .answer)
   -- bytes go up with no other answer
   pub hands-up : HandsUp c message (receiveOutcome c (countOf (W .ours u)) message room .answer) (receiveOutcome c (countOf (W .ours u)) message room .delivered)
 
--- the next receive gets our count as its now, at a moment no earlier than the last call; any room, and any bytes that are a message
+-- DEMAND-3: the next receive gets our count as its now, at a moment no earlier than the last call; any room, and any bytes that are a message
 abbrev pub Demand3 : Type 1
 Demand3 =
     (W : World) (began : W .Moment) (j role : ℕ) (settings : Settings) (log : List (Ours W)) (t : W .Moment) (c : Connection) → History W began role settings log t c

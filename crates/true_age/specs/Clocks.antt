@@ -1,5 +1,5 @@
--- The world that demand 3 speaks of: two clocks, and what is supposed of them.
--- A clock's reading is unbounded; its count, which calls and messages carry, is the reading mod 2^32.
+-- The world that DEMAND-3 speaks of: two clocks, and what is supposed of them.
+-- A clock's reading is unbounded; its count, which calls and messages carry, is the reading mod 2^32 (TIME-1).
 use Prim.Native.Nat.{ℕ, _≤_}
 use lib.IntN.{ℤ, pos, _+ℤ_, _-ℤ_}
 use lib.Signed.{_≤ℤ_}
@@ -15,7 +15,7 @@ pub record World : Type 1 where
   -- our clock and the peer's
   pub ours : Moment → ℕ
   pub peers : Moment → ℕ
-  -- "neither count runs back"
+  -- no clock runs back
   pub ours-runs : (t u : Moment) → early t u → ours t ≤ ours u
   pub peers-runs : (t u : Moment) → early t u → peers t ≤ peers u
   -- when the n-th message that we write on this connection, counted from 0, arrives at the peer (any moment for one that is lost)
@@ -25,11 +25,11 @@ pub record World : Type 1 where
 abbrev pub countOf : ℕ → Count
 countOf n = record { 0 = wrapped (pos n) }
 
--- "the two counts' difference": ours minus the peer's
+-- by how much our clock leads the peer's
 abbrev pub lead : (W : World) → W .Moment → ℤ
 lead W t = pos (W .ours t) -ℤ pos (W .peers t)
 
--- "since the set-up began the two counts' difference has stayed inside a band J ticks wide": up to the moment at which a message is judged
+-- DEMAND-3: the clocks drift within a band of J ticks, from the set-up's beginning up to the moment at which a message is judged
 pub record InBand (W : World) (began judged : W .Moment) (j : ℕ) : Type 0 where
   pub floor : ℤ
   pub over : (t : W .Moment) → W .early began t → W .early t judged → floor ≤ℤ lead W t

@@ -33,7 +33,7 @@ module _ (W : World) where
     newest : {x : Ours} {log : List Ours} → Written (length log) x (x ∷ log)
     earlier : {n : ℕ} {x y : Ours} {log : List Ours} → Written n x log → Written n x (y ∷ log)
 
-  -- "the peer reports arrivals truthfully": the arrival is that of one that we wrote on this connection, whose stamp is echoed
+  -- a true report: the arrival is that of a message that we wrote on this connection, whose stamp is echoed
   pub record Reports (log : List Ours) (h : Header) : Type 0 where
     pub which : ℕ
     pub ours : Ours
@@ -47,13 +47,13 @@ module _ (W : World) where
     -- a message of the peer's, taken at a moment
     pub record Judged (log : List Ours) (taken : W .Moment) (h : Header) : Type 0 where
       pub sent : W .Moment
-      -- "was sent by it on this connection once its set-up had begun"
+      -- on this connection, since its set-up began
       pub since : W .early began sent
       -- it is taken no earlier than it was sent; the tick may be the same
       pub onward : W .early sent taken
-      -- "the peer stamps truthfully"
+      -- its stamp is true
       pub stamped : h .stamp ≡ countOf (W .peers sent)
-      -- "and reports arrivals truthfully": asked of OffsetAnsw1 and OffsetAnsw2 alone
+      -- and its report, which is asked of OffsetAnsw1 and OffsetAnsw2 alone
       pub reports : (h .kind ≡ 2) ⊎ (h .kind ≡ 3) → Reports log h
 
     -- the same of bytes; of bytes that are no message nothing is supposed
@@ -61,7 +61,7 @@ module _ (W : World) where
     JudgedBytes log taken Parsed.Malformed = Unit {0}
     JudgedBytes log taken (Parsed.Whole h t) = Judged log taken h
 
-    -- "each call from begin on gets our count as its now, and the slot's record as the call before left it": any of the five calls in any order,
+    -- DEMAND-3: from begin on each call gets our count as its now and the record that the one before left. Any of the five calls in any order,
     -- any bytes, sizes and rooms, refusals included. What we wrote, the moment of the last call, and the record that it left.
     pub data History (role : ℕ) (settings : Settings) : List Ours → W .Moment → Connection → Type 0 where
       -- an initiator's set-up has begun when begin writes OffsetStart; a responder's may begin later, with the peer's
@@ -72,7 +72,7 @@ module _ (W : World) where
           (withWritten t (beginOutcome c role settings first period (countOf (W .ours t)) room .reply) [])
           t
           (beginOutcome c role settings first period (countOf (W .ours t)) room .next)
-      -- "every message we judge": what set-up takes, by a receive that answers 0. Of other bytes nothing is supposed here
+      -- the peer is truthful in what set-up takes, by a receive that answers 0. Of other bytes nothing is supposed here
       received : {log : List Ours} {t : W .Moment} {c : Connection} → History role settings log t c
           → (u : W .Moment) → W .early t u → (message : List ℕ) (room : ℕ)
           → (eqb (c .phase) opened ≡ false → receiveOutcome c (countOf (W .ours u)) message room .answer ≡ 0

@@ -203,7 +203,7 @@ no-fault-2 : (c : Connection) (now : Count) (h : Header) (t : Tail) → h .kind 
 unfolding faultOf dropped tooFar gap numberJudged wrongEcho checkFailed ageNumber
 no-fault-2 c now h t k e = rw (k, eq-eqb (h .«last_peer_stamp» .0) (c .«wait_start» .0) e)
 
--- ---- what 01's table allows
+-- ---- what the table of messages allows
 
 start-allowed : (first : ℕ) (now : Count) (period : ℕ) → Allowed (startHeader first now) (periodTail period) []
 unfolding allowedOf tableOf lists totalOf laterStamp checkOver

@@ -87,23 +87,23 @@ module _ (b : Boxes) where
 
 -- ---- the offsets, own minus peer, with R2 = R1 and I3 = I2
 
--- initiator min = I1-R1
+-- OFFSET-2: initiator min = I1-R1
 abbrev pub initiatorMin : Boxes → Offset
 initiatorMin b = offsetBetween (b .i1) (b .r1)
 
--- initiator max = I2-R2
+-- OFFSET-2: initiator max = I2-R2
 abbrev pub initiatorMax : Boxes → Offset
 initiatorMax b = offsetBetween (b .i2) (b .r1)
 
--- responder min = R2-I2
+-- OFFSET-3: responder min = R2-I2
 abbrev pub responderMin : Boxes → Offset
 responderMin b = offsetBetween (b .r1) (b .i2)
 
--- responder max = R3-I3
+-- OFFSET-3: responder max = R3-I3
 abbrev pub responderMax : Boxes → Offset
 responderMax b = offsetBetween (b .r3) (b .i2)
 
--- what the initiator holds against its T_off: the size of its min + peer's max
+-- EST-3: what the initiator holds against its T_off
 abbrev pub sizeOfMinPlusPeersMax : Boxes → ℕ
 sizeOfMinPlusPeersMax b = natAbs (centred (initiatorMin b .0 +ℤ responderMax b .0))
 
@@ -127,9 +127,9 @@ pub record Joined (b : Boxes) : Type 0 where
   pub i2 : b .i2 .0 < 2 ^ 32
   pub r3 : b .r3 .0 < 2 ^ 32
   pub i4 : b .i4 .0 < 2 ^ 32
-  -- the responder begins before OffsetStart arrives: its clock does not go back
+  -- the responder begins before OffsetStart arrives: its clock does not go back (KIND-4)
   pub responder-first : goesBack (b .r1 .0) (b .r0 .0) ≡ false
-  -- no wait begun by a send expires
+  -- no wait expires (WAIT-1)
   pub in-time-for-answ1 : waitOf (b .i2 .0) (b .i1 .0) < b .initiator .settings .«t_start»
   pub in-time-for-answ2 : waitOf (b .r3 .0) (b .r1 .0) < b .responder .settings .«t_start»
   pub in-time-for-est : waitOf (b .i4 .0) (b .i2 .0) < b .initiator .settings .«t_start»
@@ -184,11 +184,11 @@ pub record BothReleased (b : Boxes) : Type 0 where
   pub gets-est : FailsCheck (answerOf (getsEst b) []) 16
   pub gets-end : FailsCheck (answerOf (getsEnd b) []) 0
 
--- joined, with offsets within the initiator's T_off: both open
+-- joined, and EST-3 holds: both open. SHUT-1, SHUT-3: not so where a box refuses everything or never sends
 abbrev pub TwoBoxesOpen : Type 0
 TwoBoxesOpen = (b : Boxes) → Joined b → sizeOfMinPlusPeersMax b ≤ b .initiator .settings .«t_off» → BothOpen b
 
--- joined, with offsets beyond it: both are released
+-- joined, and EST-3 does not hold: both are released
 abbrev pub TwoBoxesRelease : Type 0
 TwoBoxesRelease = (b : Boxes) → Joined b → b .initiator .settings .«t_off» < sizeOfMinPlusPeersMax b → BothReleased b
 
@@ -197,7 +197,7 @@ abbrev pub SizeIsOfWaits : Type 0
 SizeIsOfWaits =
     (b : Boxes) → Joined b → sizeOfMinPlusPeersMax b ≡ natAbs (pos (waitOf (b .r3 .0) (b .r1 .0)) -ℤ pos (waitOf (b .i2 .0) (b .i1 .0)))
 
--- so where T_off is at least the T_start of both, nothing need be asked of the offsets
+-- so where T_off is at least the T_start of both, EST-3 holds
 abbrev pub TwoBoxesOpenInTime : Type 0
 TwoBoxesOpenInTime =
     (b : Boxes) → Joined b → b .initiator .settings .«t_start» ≤ b .initiator .settings .«t_off» → b .responder .settings .«t_start» ≤ b .initiator .settings .«t_off»

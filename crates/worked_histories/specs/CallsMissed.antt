@@ -13,7 +13,7 @@ use Rattle.worked_histories.specs.Histories.{Place, begin, receive, Comm
 use Rattle.worked_histories.specs.SetUp.{est, toInitiator, atInitiator, offsetStart, initiatorOpen}
 use Rattle.worked_histories.specs.Initiator.{settings200, band0}
 
--- ---- "the slot's record as the call before left it"
+-- ---- each call gets the record that the one before left
 
 -- OffsetAnsw1 of another neighbour, whose clock reads 100 less: number 20, stamp 100, echo 1000, arrived at 70, period 50
 abbrev pub anothersAnsw1 : List ℕ
@@ -63,7 +63,7 @@ pub record AnotherRecord : Type 0 where
   pub numbers-are : numbersOf (atInitiator responders runs) band0 (anothersOpen runs) 1150 1400 (headerOf mixedMessage) mixedMessage ≡ mixedNumbers
   pub claim-fails : ¬ (Claimed settings200 (anothersOpen runs) band0 mixedNumbers)
 
--- ---- "since the set-up began": an initiator's has begun when begin writes OffsetStart
+-- ---- an initiator's set-up has begun when begin writes OffsetStart
 
 -- the peer's clock gains 20 ticks from 1000 to 1020: the difference falls from 870 to 850
 abbrev pub quickPeers : ℕ → ℕ

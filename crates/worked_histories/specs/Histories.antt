@@ -17,7 +17,7 @@ use Rattle.true_age.specs.Clocks.{World, InBand, countOf}
 use Rattle.true_age.specs.History.{Ours, withWritten, Written, Judged, History}
 use Rattle.true_age.specs.Claim.{transit, trueAge, AgeClaim}
 
--- "the out buffer has 1,000 bytes"
+-- the out buffer's size, as in TRACE-6
 abbrev pub room : ℕ
 room = 1000
 

@@ -13,7 +13,7 @@ use Rattle.worked_histories.specs.SetUp.{toInitiator, atInitiator, initi
 abbrev pub peers : ℕ → ℕ
 peers = gaining 2000 2060 responders
 
--- T_max 40 and E 0, as 01 works them
+-- T_max 40 and E 0, as in NUM-4
 abbrev pub settings : Settings
 settings = record { n = 3; «t_max» = 40; e = 0; «t_start» = 100; «t_off» = 10; limit = 5 }
 

@@ -14,7 +14,7 @@ use Rattle.worked_histories.specs.SetUp.{answ1, est, toInitiator, atInit
 use Rattle.worked_histories.specs.Initiator.{slowPeers, settings200, band60, band0, slowMessage}
 use Rattle.worked_histories.specs.CallsMissed.{driftingPeers, driftedMessage, asReported, openAsReported, reportedMessage, AnotherRecord, BegunAfter, TakenBeforeSent, ReportOfAnother}
 
--- ---- "with true age + E + J + d below 2^31"
+-- ---- true age + E + J + d is under 2^31
 
 -- the difference has risen by the whole band; ticks keep our clock from going back
 module _ (runs : Runs slowPeers) where
@@ -46,7 +46,7 @@ pub record PastTheBound : Type 0 where
   pub bound-missed : 2 ^ 31 < pastNumbers .true-age + band60 .e + band60 .j + band60 .d
   pub claim-fails : ¬ (Claimed settings200 (afterTicks runs .c) band60 pastNumbers)
 
--- ---- "the two counts' difference has stayed inside a band J ticks wide"
+-- ---- the clocks drift within a band of J ticks
 
 abbrev pub driftedNumbers : Numbers
 driftedNumbers = truly 1000 computed pos 30 answers 0 between pos 970 and pos 1090
@@ -61,7 +61,7 @@ pub record OutsideTheBand : Type 0 where
 
 -- ---- the others are missed with J 0: none handed up is truly older than 170
 
--- ---- "was sent by it on this connection once its set-up had begun"
+-- ---- the message was sent since the set-up began
 
 -- of a connection before, sent at 0: type 6, number 22, stamp 150
 abbrev pub earlierMessage : List ℕ
@@ -85,7 +85,7 @@ pub record SentBefore : Type 0 where
   pub since-missed : ¬ (atInitiator standingBefore runs .early 1000 0)
   pub claim-fails : ¬ (Claimed settings200 (initiatorOpen standingBefore runs settings200 .c) band0 earlierNumbers)
 
--- ---- "the peer stamps truthfully"
+-- ---- its stamp is true
 
 -- stamp 1150, as if sent at 2000
 abbrev pub falselyStamped : List ℕ
@@ -112,7 +112,7 @@ pub record FalseStamp : Type 0 where
       ≡ sentNumbers
   pub claim-fails : ¬ (Claimed settings200 (initiatorOpen responders runs settings200 .c) band0 sentNumbers)
 
--- ---- "and reports arrivals truthfully"
+-- ---- reported arrivals are true
 
 -- OffsetAnsw1 as in the set-up, but OffsetStart arrived at 150
 abbrev pub falseAnsw1 : List ℕ
@@ -143,7 +143,7 @@ pub record FalseArrival : Type 0 where
   pub numbers-are : numbersOf (atInitiator responders runs) band0 (openAsReported 1000 falseAnsw1 runs .c) 1200 1390 (headerOf reportedMessage) reportedMessage ≡ trueNumbers
   pub claim-fails : ¬ (Claimed settings200 (openAsReported 1000 falseAnsw1 runs .c) band0 trueNumbers)
 
--- ---- "each call from begin on gets our count as its now"
+-- ---- each call gets our count as its now
 
 -- what the calls get: it stands still from 1150 to 1200, and is 50 behind our count from there on
 abbrev pub lagging : ℕ → ℕ

@@ -1,5 +1,5 @@
--- The set-up of the worked histories, with 01's worked numbers: I1 1000, R1 170, R2 200, I2 1080 at an initiator; R2 200, I2 1080, I3 1100, R3 260 at a responder.
--- A reply of ours is stamped with the now of the call that took the message: the initiator's I3 is 1080, the responder's R1 is 200.
+-- The set-up of the worked histories, with the counts of NUM-1: I1, R1, R2 and I2 at an initiator; R2, I2, I3 and R3 at a responder.
+-- By SETUP-STAMP the initiator's I3 is 1080, and the responder's R1 200.
 use Prim.Native.Nat.{ℕ}
 use mathlib.Core.List.{List, [], _∷_}
 use Rattle.connection.specs.declared.Settings.{Settings}
@@ -32,7 +32,7 @@ est =
 
 -- ---- the peer's messages to a responder
 
--- OffsetStart, number 7, count 1000, period 50: 01's own bytes
+-- OffsetStart, number 7, count 1000, period 50: the bytes of NUM-16
 abbrev pub start : List ℕ
 start =
     0x01 ∷ 0x00 ∷ 0x07

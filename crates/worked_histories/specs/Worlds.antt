@@ -5,7 +5,7 @@ use lib.Dec.{eqb}
 use Rattle.rules.specs.Rows.{when_answer_else_}
 use Rattle.true_age.specs.Clocks.{World, InBand}
 
--- "neither count runs back"
+-- a clock that does not run back
 abbrev pub Runs : (ℕ → ℕ) → Type 0
 Runs clock = (t u : ℕ) → t ≤ u → clock t ≤ clock u
 
@@ -34,7 +34,7 @@ worldOf ours peers arrived ours-runs peers-runs =
 abbrev pub StaysInBand : (W : World) → W .Moment → ℕ → Type 0
 StaysInBand W began j = (judged : W .Moment) → InBand W began judged j
 
--- 01: "true offset 850". The initiator's clock reads the moment itself, the responder's 850 less, unless a world says otherwise
+-- The true offset is NUM-1's, 850: the initiator's clock reads the moment itself, the responder's 850 less, unless a world says otherwise
 abbrev pub initiators : ℕ → ℕ
 initiators t = t
 

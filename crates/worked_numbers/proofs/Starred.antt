@@ -1,4 +1,4 @@
--- 01's starred lines hold, by computation: a line of `refl` for each of them.
+-- The starred lines hold (OPEN-4), by computation: a line of `refl` for each of them.
 -- Assumes nothing.
 use mathlib.Core.Path.{refl}
 use Rattle.rules.specs.Modulo.{modulo}

@@ -1,4 +1,4 @@
--- 01's "Numbers worked through": the starred lines in one table, over the definitions of the calls and from raw bytes.
+-- OPEN-4: the starred numbers of NUM-1 to NUM-16 in one table, over the definitions of the calls and from raw bytes.
 use Prim.Native.Nat.{ℕ}
 use mathlib.Core.Path.{_≡_}
 use mathlib.Core.List.{List, [], _∷_, _++_}
@@ -25,7 +25,7 @@ count n = record { 0 = n }
 
 -- ---- raw bytes: type, number, sender stamp, last peer stamp, own count at its arrival; then what stands after the header
 
--- OffsetStart number 7, count 1000, period 50: 01 00 07 00 00 03 E8, eight 00, 00 00 00 32
+-- NUM-16: 01 00 07 00 00 03 E8, eight 00, 00 00 00 32
 abbrev pub start : List ℕ
 start = 0x01 ∷ 0x00 ∷ 0x07 ∷ 0x00 ∷ 0x00 ∷ 0x03 ∷ 0xE8 ∷ replicate 8 0x00 ++ (0x00 ∷ 0x00 ∷ 0x00 ∷ 0x32 ∷ [])
 
@@ -164,7 +164,7 @@ stamp4294967290 = 0xFF ∷ 0xFF ∷ 0xFF ∷ 0xFA ∷ []
 -- ---- the table
 
 infix 70 _gives_
--- a row: what the definitions give, and what 01 says
+-- a row: what the definitions give, and what the rule says
 pub data Row : Type 1 where
   _gives_ : {A : Type 0} → A → A → Row
 
@@ -177,52 +177,52 @@ pub data AllHold : List Row → Type 1 where
   nothing : AllHold []
   _and_ : {row : Row} {rows : List Row} → Holds row → AllHold rows → AllHold (row ∷ rows)
 
--- the starred lines, in 01's order
+-- OPEN-4: the starred lines, in their order
 abbrev pub starred : List Row
 starred =
-    -- I1 1000, R1 170, R2 200, I2 1080, I3 1100, R3 260 (true offset 850): initiator 830, 880; responder -880, -840
+    -- NUM-1: I1 1000, R1 170, R2 200, I2 1080, I3 1100, R3 260 (true offset 850): initiator 830, 880; responder -880, -840
     getsAnsw1 (settings 40 10) (answ1 0x00 0x09) .next .min .0 gives pos 830
     ∷ getsAnsw1 (settings 40 10) (answ1 0x00 0x09) .next .max .0 gives pos 880
     ∷ getsAnsw2 (settings 40 10) .next .min .0 gives negℤ (pos 880)
     ∷ getsAnsw2 (settings 40 10) .next .max .0 gives negℤ (pos 840)
-    -- T_off 10 accepts these
+    -- NUM-2: T_off 10
     ∷ getsEst (settings 40 10) (answ1 0x00 0x09) (est 0x00 0x0A) .answer gives 0
     ∷ getsEst (settings 40 10) (answ1 0x00 0x09) (est 0x00 0x0A) .next .phase gives opened
-    -- T_off 9 gives 209
+    -- NUM-3: T_off 9
     ∷ getsEst (settings 40 9) (answ1 0x00 0x09) (est 0x00 0x0A) .answer gives 209
-    -- at the initiator stamp 300, now 1170, E 0: age 40; T_max 40 delivers
+    -- NUM-4: stamp 300, now 1170, T_max 40
     ∷ ageAt (initiator 40) 1170 (application 0x00 0x0B stamp300) gives pos 40
     ∷ answerTo (initiator 40) 1170 (application 0x00 0x0B stamp300) gives 0
     ∷ deliveredTo (initiator 40) 1170 (application 0x00 0x0B stamp300) gives dataBytes
-    -- 39 is 205
+    -- NUM-5: T_max 39
     ∷ answerTo (initiator 39) 1170 (application 0x00 0x0B stamp300) gives 205
-    -- same, now 1130: age 0
+    -- NUM-6: now 1130
     ∷ ageAt (initiator 40) 1130 (application 0x00 0x0B stamp300) gives pos 0
     ∷ answerTo (initiator 40) 1130 (application 0x00 0x0B stamp300) gives 0
-    -- now 1129: 206
+    -- NUM-7: now 1129
     ∷ ageAt (initiator 40) 1129 (application 0x00 0x0B stamp300) gives negℤ (pos 1)
     ∷ answerTo (initiator 40) 1129 (application 0x00 0x0B stamp300) gives 206
-    -- responder, stamp 1200, now 365: age 45, so that T_max 45 delivers and 44 does not
+    -- NUM-8: stamp 1200, now 365; T_max 45 delivers and 44 does not
     ∷ ageAt (responder 45) 365 (application 0x00 0x0A stamp1200) gives pos 45
     ∷ answerTo (responder 45) 365 (application 0x00 0x0A stamp1200) gives 0
     ∷ answerTo (responder 44) 365 (application 0x00 0x0A stamp1200) gives 205
-    -- min 830, stamp 4294967290, now 860: age 36, so that T_max 36 delivers and 35 does not
+    -- NUM-9: stamp 4294967290, now 860; T_max 36 delivers and 35 does not
     ∷ early 36 .min .0 gives pos 830
     ∷ ageAt (early 36) 860 (application 0x00 0x0B stamp4294967290) gives pos 36
     ∷ answerTo (early 36) 860 (application 0x00 0x0B stamp4294967290) gives 0
     ∷ answerTo (early 35) 860 (application 0x00 0x0B stamp4294967290) gives 205
-    -- last 65535, next 0: d = 1
+    -- NUM-10: last 65535, next 0
     ∷ initiator65535 .«last_number» gives 65535
     ∷ distanceOf (headerOf (application 0x00 0x00 stamp300) .number) (initiator65535 .«last_number») gives 1
     ∷ answerTo initiator65535 1170 (application 0x00 0x00 stamp300) gives 0
-    -- N 3, last 10: 13 is 204
+    -- NUM-11: last 10, next 13
     ∷ initiator 40 .«last_number» gives 10
     ∷ answerTo (initiator 40) 1170 (application 0x00 0x0D stamp300) gives 204
-    -- 14 is 203
+    -- NUM-12: next 14
     ∷ answerTo (initiator 40) 1170 (application 0x00 0x0E stamp300) gives 203
-    -- 10 is 202
+    -- NUM-13: next 10
     ∷ answerTo (initiator 40) 1170 (application 0x00 0x0A stamp300) gives 202
-    -- OffsetStart number 7, count 1000, period 50
+    -- NUM-16
     ∷ outAfter (begins (settings 40 10)) [] (replicate 19 0xFF) gives start
     ∷ []
 
