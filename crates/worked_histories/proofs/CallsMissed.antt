@@ -20,14 +20,14 @@ use Rattle.judging.specs.Judging.{answ1Taken, estTaken, dataTaken, takenOf, rai
 use Rattle.connection.specs.declared.Connection.{Connection}
 use Rattle.calls.specs.Calls.{startHeader, bad, closeRefusal, tickRefusal, receiveRefusal, beginRefusal, timed, expired, receiveOutcome, beginOutcome}
 use Rattle.calls.specs.Promises.{deliversTo}
-use Rattle.true_age.specs.Clocks.{World, InBand, countOf}
+use Rattle.true_age.specs.Clocks.{InBand, countOf}
 use Rattle.true_age.specs.History.{Ours, JudgedBytes, newest, earlier, begun, received}
-use Rattle.worked_histories.specs.Worlds.{StaysInBand, Runs, arrivals, worldOf, initiators, responders, past}
+use Rattle.worked_histories.specs.Worlds.{StaysInBand, Runs, arrivals, worldOf, initiators, responders}
 use Rattle.worked_histories.specs.Histories.{room, begin}
 use Rattle.worked_histories.specs.SetUp.{est, atInitiator, offsetStart}
 use Rattle.worked_histories.specs.Initiator.{settings200}
 use Rattle.worked_histories.specs.CallsMissed.{quickPeers, driftingPeers, asReported, openAsReported, earliersAnsw1, AnotherRecord, BegunAfter, TakenBeforeSent, ReportOfAnother}
-use Rattle.worked_histories.proofs.Worlds.{past-most, responders-run, gaining-runs, at-least, at-most}
+use Rattle.worked_histories.proofs.Worlds.{responders-run, gaining-runs, at-least, at-most}
 use Rattle.worked_histories.proofs.Histories.{type-4-on, Reaches, judges}
 use Rattle.worked_histories.proofs.SetUp.{initiator-set-up}
 

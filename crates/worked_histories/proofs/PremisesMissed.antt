@@ -20,13 +20,13 @@ use Rattle.calls.specs.Calls.{startHeader, bad, closeRefusal, tickRefusal, rece
 use Rattle.calls.specs.Promises.{deliversTo}
 use Rattle.true_age.specs.Clocks.{countOf}
 use Rattle.true_age.specs.History.{Ours, newest, earlier, begun, received, ticked}
-use Rattle.worked_histories.specs.Worlds.{StaysInBand, Runs, arrivals, worldOf, initiators, responders, past, standingBefore}
+use Rattle.worked_histories.specs.Worlds.{StaysInBand, Runs, arrivals, responders, past, standingBefore}
 use Rattle.worked_histories.specs.Histories.{room}
 use Rattle.worked_histories.specs.SetUp.{answ1, est, atInitiator, offsetStart}
 use Rattle.worked_histories.specs.Initiator.{slowPeers, settings200}
 use Rattle.worked_histories.specs.CallsMissed.{driftingPeers, asReported, openAsReported}
 use Rattle.worked_histories.specs.PremisesMissed.{afterTick, falseAnsw1, lagging, asCalled, openAsCalled, EachIsNeeded}
-use Rattle.worked_histories.proofs.Worlds.{past-most, responders-run, initiators-stand, standing-before-runs, gaining-runs, at-least, at-most}
+use Rattle.worked_histories.proofs.Worlds.{past-most, responders-run, initiators-stand, standing-before-runs, at-least, at-most}
 use Rattle.worked_histories.proofs.Histories.{type-4-on, Reaches, judges}
 use Rattle.worked_histories.proofs.SetUp.{initiator-set-up}
 use Rattle.worked_histories.proofs.Initiator.{slow-runs, slow-band}

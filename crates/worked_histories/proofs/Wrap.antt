@@ -1,6 +1,5 @@
 -- The premises of demand 3 are met where both counts pass 2^32, by computation.
 -- Assumes nothing.
-use Prim.Native.Nat.{ℕ, _+_, _≤_}
 use mathlib.Core.Path.{refl}
 use native.Mathlib.Omega.{arith}
 use lib.Dec.{lit<, lit≤}
@@ -20,7 +19,7 @@ use Rattle.true_age.specs.History.{newest, earlier, begun, received}
 use Rattle.worked_histories.specs.Worlds.{StaysInBand, Runs}
 use Rattle.worked_histories.specs.Histories.{room}
 use Rattle.worked_histories.specs.Initiator.{settings200}
-use Rattle.worked_histories.specs.Wrap.{ours, peers, answ1, est, freshMessage, world, offsetStart, afterEst, afterFresh, AcrossTheWrap}
+use Rattle.worked_histories.specs.Wrap.{ours, peers, answ1, est, freshMessage, world, offsetStart, afterEst, AcrossTheWrap}
 use Rattle.worked_histories.proofs.Worlds.{at-least, at-most}
 use Rattle.worked_histories.proofs.Histories.{type-4-on, Reaches, goes-on, judges}
 

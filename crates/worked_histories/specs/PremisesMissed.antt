@@ -8,7 +8,7 @@ use lib.IntN.{pos, negℤ}
 use Rattle.message.specs.Read.{headerOf}
 use Rattle.true_age.specs.Clocks.{World, InBand, countOf}
 use Rattle.true_age.specs.Claim.{trueAge}
-use Rattle.worked_histories.specs.Worlds.{Runs, StaysInBand, arrivals, worldOf, initiators, responders, gaining, standing, standingBefore}
+use Rattle.worked_histories.specs.Worlds.{Runs, StaysInBand, arrivals, worldOf, initiators, responders, standing, standingBefore}
 use Rattle.worked_histories.specs.Histories.{Place, begin, receive, tick, Common, commonOf, Numbers, numbersOf, Judges, Claimed, truly_computed_answers_between_and_}
 use Rattle.worked_histories.specs.SetUp.{answ1, est, toInitiator, atInitiator, offsetStart, initiatorOpen}
 use Rattle.worked_histories.specs.Initiator.{slowPeers, settings200, band60, band0, slowMessage}
