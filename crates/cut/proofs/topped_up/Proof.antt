@@ -2,6 +2,7 @@
 use mathlib.Core.Path.{refl, sym, _∙_}
 use mathlib.Core.Bool.{false, false≢true}
 use native.Mathlib.Omega.{arith}
+use lib.IntN.{pos}
 use borrow.Author.Tests.{not-true, not-false}
 use Rattle.recording.proofs.Whole.{refill-not-low}
 use borrow.Author.Needs.{needs}
@@ -16,7 +17,7 @@ returns c =
     let start = c .before .before .before .before in
     let high = sym (c .before .low .ensures) ∙ not-true _ (c .if1 .taken) in (
       record {
-        refilled = record { window = start .args .window; failed = false };
+        refilled = record { window = start .args .window; failed = false; last = record { room = 0; got = pos 0 } };
         window = refl;
         low = λ e. absurd (false≢true (sym high ∙ e));
         not-low = λ _. (refl, refl);
