@@ -105,9 +105,6 @@ faultIn row number userData = not (eqb number 0) || ltb (length userData) (least
 unfoldable pub inClassD : ℕ → Bool
 inClassD kind = hasClassD (typeRow kind)
 
-unfoldable pub goesOn : Bool → ℕ → Bool
-goesOn normal kind = hasLink normal (typeRow kind)
-
 -- TYPE-1 and TYPE-2, which are the types numbered 0
 unfoldable pub opens : ℕ → Bool
 opens kind = numberedZero (typeRow kind)

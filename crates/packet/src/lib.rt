@@ -7,7 +7,7 @@ ghost use lib.Seq.{sets};
 ghost use Rattle.field.specs.Row.{rowOf};
 ghost use Rattle.packet.specs.Sizes.{headerSize, mostData, checkedBytes, checkedFields};
 ghost use Rattle.packet.specs.Check.{bitIn, bitsIn};
-ghost use Rattle.packet.specs.Types.{typeRow, leastOf, hasClassD, hasLink, unwantedData, numberedZero, inClassD, goesOn, opens, openingFault};
+ghost use Rattle.packet.specs.Types.{typeRow, hasClassD, hasLink, unwantedData, numberedZero, inClassD, opens, openingFault};
 ghost use Rattle.packet.specs.Packet.{widths, headerOf, checkAt, flagOf, packetBytes};
 ghost use Rattle.packet.specs.Writing.{notClassD, writeAnswer, writtenOf, bytesWritten};
 
@@ -172,21 +172,6 @@ pub fn in_class_d(kind: u8) -> bool
     ensures { λ r. ⌜ r ≡ inClassD kind ⌝ }
 {
     has_class_d(type_row(kind))
-}
-
-// The least user data of a type.
-pub fn least(kind: u8) -> u8
-    ensures { λ r. ⌜ r ≡ leastOf (typeRow kind) ⌝ }
-{
-    let row = type_row(kind);
-    row[LEAST]
-}
-
-// Whether a type may go on a link.
-pub fn goes_on(normal: bool, kind: u8) -> bool
-    ensures { λ r. ⌜ r ≡ goesOn normal kind ⌝ }
-{
-    has_link(normal, type_row(kind))
 }
 
 // AU1 or AU2, the packets that open.
