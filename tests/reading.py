@@ -1,0 +1,104 @@
+# Reads the code for the checks of the documents: its functions with what they call, and the names that definitions and proofs give.
+import collections
+import glob
+import os
+import re
+
+Function = collections.namedtuple("Function", "crate module owner name public head body")
+
+
+def crates():
+    return [path.split("/")[1] for path in sorted(glob.glob("crates/*/"))]
+
+
+def qualified(f):
+    return "::".join(part for part in (f.crate, f.module, f.owner, f.name) if part)
+
+
+# The functions of one file: each begins with its `fn` line, its head ends with the line that opens the body, its body with the brace that stands below it.
+def functions_of(path):
+    crate, file = path.split("/")[1], os.path.basename(path)[:-3]
+    module, owner, head, body, closing = "" if file in ("lib", "main") else file, "", None, None, ""
+    for line in open(path).read().splitlines():
+        if head is None:
+            block = re.match(r"impl(?:<[^>]*>)? (\w+)", line)
+            owner = block.group(1) if block else "" if line.startswith("}") else owner
+            begins = re.match(r"(\s*)(pub )?(?:extern \"C\" )?fn (\w+)", line)
+            if not begins:
+                continue
+            head, body, closing, name, public = [], None, begins.group(1) + "}", begins.group(3), bool(begins.group(2))
+        if body is None:
+            head.append(line)
+            if re.search(r"(^|\s)\{\s*$", line):
+                body = []
+            elif line.rstrip().endswith("{}"):
+                yield Function(crate, module, owner, name, public, "\n".join(head), "")
+                head = None
+        elif line == closing:
+            yield Function(crate, module, owner, name, public, "\n".join(head), "\n".join(body))
+            head = None
+        else:
+            body.append(line)
+
+
+def functions():
+    return {qualified(f): f for path in sorted(glob.glob("crates/*/src/*.rt")) for f in functions_of(path)}
+
+
+# The functions that a function's body calls: `crate::f(`, `module::f(`, `Type::f(`, `f(` and `.f(`; a method is any of that name.
+def called(f, there):
+    by_last = collections.defaultdict(set)
+    for name in there:
+        by_last[name.split("::")[-1]].add(name)
+    found = set()
+    for path, dot, last in re.findall(r"((?:\w+::)*)(\.?)\b(\w+)\(", f.body):
+        for name in by_last[last]:
+            g = there[name]
+            if dot:
+                found |= {name} if g.owner else set()
+            elif path:
+                words = path.split("::")[-2]
+                found |= {name} if words in (g.crate, g.module, g.owner) else set()
+            elif (g.crate, g.module, g.owner) == (f.crate, f.module, "") or (g.crate, g.module, g.owner) == (f.crate, f.module, f.owner):
+                found.add(name)
+    return found
+
+
+# All functions that are run where these are.
+def reached(entries, there):
+    done, ahead = set(), list(entries)
+    while ahead:
+        name = ahead.pop()
+        if name not in done:
+            done.add(name)
+            ahead += called(there[name], there)
+    return done
+
+
+# The lent parameters of a function that it may write to.
+def lent_to_write(f):
+    return re.findall(r"(\w+): &(?:'\w+ )?mut\b", f.head.split("requires")[0].split("ensures")[0])
+
+
+# What its contract says at exit.
+def ensured(f):
+    return "".join(re.split(r"\b(requires|ensures)\b", f.head)[2::2]) if "ensures" in f.head else ""
+
+
+# The names that a file of definitions or proofs gives: definitions, theorems, records and their fields, types and their cases.
+def given_by(path):
+    return set(re.findall(r"^\s*(?:abbrev |unfoldable )?(?:pub )?(?:record |data )?([^\s:(){}]+)(?= [^=\n]*:| :)", open(path).read(), re.M))
+
+
+# Those names, with the file of each: `crate/specs/File` or `crate/proofs/File`.
+def names():
+    given = collections.defaultdict(set)
+    for path in glob.glob("crates/*/specs/*.antt") + glob.glob("crates/*/proofs/**/*.antt", recursive=True):
+        for name in given_by(path):
+            given[name].add("/".join(path[:-5].split("/")[1:]))
+    return given
+
+
+# The wrong programs that are kept: in the gate, and beside it.
+def edits(folder):
+    return {tuple(path[:-5].split("/")[1::2]) for path in glob.glob("crates/*/%s/*.edit" % folder)}
