@@ -163,8 +163,8 @@ pub fn total_of(kind: u8, data: usize) -> Option<usize> {
     Some(total).filter(|total| total_listed(kind, *total))
 }
 
-/// Writes a message from its fields, the data where its type has some, or none where it would be malformed, where the data has another length than is said, or where
-/// the out buffer is too short. A check byte over 1 is refused in every type.
+/// Writes a message from its fields, the data where its type has some; or none where it would be malformed, where the data has another length than is
+/// said, or where the out buffer is too short. A check byte over 1 is refused in every type.
 pub fn write_parts(parts: &Parts, data: &[u8], out: &mut [u8]) -> usize {
     let after = match parts.kind {
         START => After::Start { period: parts.period },

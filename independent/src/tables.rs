@@ -10,7 +10,8 @@ use crate::streams::hex;
 use crate::table;
 use crate::traces::call_name;
 
-pub const HEADER: &str = "owner size slot call now bytes room RECORD .. = answer released written delivered_at delivered RECORD .., where RECORD is as in `calls`";
+pub const HEADER: &str = "owner size slot call now bytes room RECORD .. = answer released written delivered_at delivered RECORD .., \
+     where RECORD is as in `calls`";
 const SIZES: [usize; 5] = [0, 1, 2, 64, 65];
 const RECORDS: usize = 65;
 
@@ -43,7 +44,8 @@ impl Trial {
         let mut records = self.records.clone();
         let mut out = vec![BEFORE; self.room];
         let answer = called(&mut records[..self.size], self.slot as usize, &self.crafted, &mut out);
-        let words: Vec<String> = std::iter::once(calls::answer_text(&answer, &out, &self.crafted.bytes)).chain(records.iter().map(calls::record_text)).collect();
+        let mut words = vec![calls::answer_text(&answer, &out, &self.crafted.bytes)];
+        words.extend(records.iter().map(calls::record_text));
         (words.join(" "), records)
     }
 

@@ -82,7 +82,10 @@ fn some_later(random: &mut Random, kind: u8) -> u32 {
 fn some_trial(random: &mut Random) -> Trial {
     let kind = random.pick(&[1, 2, 3, 4, 5, 6, 6, 6, 6, 1, 2, 4, 5, 0, 7, 255]);
     let between = random.between(0, 1000) as usize;
-    let length = if kind == APPLICATION { random.pick(&[0, 1, 20, between, DATA_MOST - 1, DATA_MOST, DATA_MOST + 1, 1000, 1500]) } else { random.pick(&[0, 0, 0, 5]) };
+    let length = match kind {
+        APPLICATION => random.pick(&[0, 1, 20, between, DATA_MOST - 1, DATA_MOST, DATA_MOST + 1, 1000, 1500]),
+        _ => random.pick(&[0, 0, 0, 5]),
+    };
     let said = length as u32;
     let said_length = if random.once_in(5) { random.pick(&[0, said + 1, said.saturating_sub(1), u32::MAX]) } else { said };
     let check = if random.once_in(if kind == END { 5 } else { 20 }) { random.pick(&[2, 3, 255]) } else { random.below(2) as u8 };

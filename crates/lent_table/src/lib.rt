@@ -28,7 +28,8 @@ pub fn begin(
 ) -> Returned
     requires { ⌜ size ≤ 65 ⌝ }
     ensures { λ r. ⌜ (r .answer ≡ answerAt (take size t) slot (beginAt (take size t) slot role settings first period at (length (now (out .entry)))) [])
-        × (r .table ≡ tableAfter (take size t) slot (beginAt (take size t) slot role settings first period at (length (now (out .entry)))) ++ drop size t)
+        × (r .table ≡ tableAfter (take size t) slot (beginAt (take size t) slot role settings first period at (length (now (out .entry))))
+        ++ drop size t)
         × (now (out .exit) ≡ outAt (take size t) slot (beginAt (take size t) slot role settings first period at (length (now (out .entry)))) [] (now (out .entry))) ⌝ }
 {
     let mut table = t;
@@ -55,7 +56,8 @@ pub fn receive(
 ) -> Returned
     requires { ⌜ size ≤ 65 ⌝ }
     ensures { λ r. ⌜ (r .answer ≡ answerAt (take size t) slot (receiveAt (take size t) slot at (now (message .entry)) (length (now (out .entry)))) [])
-        × (r .table ≡ tableAfter (take size t) slot (receiveAt (take size t) slot at (now (message .entry)) (length (now (out .entry)))) ++ drop size t)
+        × (r .table ≡ tableAfter (take size t) slot (receiveAt (take size t) slot at (now (message .entry)) (length (now (out .entry))))
+        ++ drop size t)
         × (now (out .exit) ≡ outAt (take size t) slot (receiveAt (take size t) slot at (now (message .entry)) (length (now (out .entry)))) [] (now (out .entry))) ⌝ }
 {
     let mut table = t;
@@ -73,7 +75,8 @@ pub fn send(
 ) -> Returned
     requires { ⌜ size ≤ 65 ⌝ }
     ensures { λ r. ⌜ (r .answer ≡ answerAt (take size t) slot (sendAt (take size t) slot at (length (now («data» .entry))) (length (now (out .entry)))) (now («data» .entry)))
-        × (r .table ≡ tableAfter (take size t) slot (sendAt (take size t) slot at (length (now («data» .entry))) (length (now (out .entry)))) ++ drop size t)
+        × (r .table ≡ tableAfter (take size t) slot (sendAt (take size t) slot at (length (now («data» .entry))) (length (now (out .entry))))
+        ++ drop size t)
         × (now (out .exit) ≡ outAt (take size t) slot (sendAt (take size t) slot at (length (now («data» .entry))) (length (now (out .entry)))) (now («data» .entry)) (now (out .entry))) ⌝ }
 {
     let mut table = t;
@@ -84,7 +87,8 @@ pub fn send(
 pub fn tick(t: [Connection; 65], size: usize, slot: usize, at: Count) -> Returned
     requires { ⌜ size ≤ 65 ⌝ }
     ensures { λ r. ⌜ (r .answer ≡ answerAt (take size t) slot (tickAt (take size t) slot at) [])
-        × (r .table ≡ tableAfter (take size t) slot (tickAt (take size t) slot at) ++ drop size t) ⌝ }
+        × (r .table ≡ tableAfter (take size t) slot (tickAt (take size t) slot at)
+        ++ drop size t) ⌝ }
 {
     let mut table = t;
     let answer = table::tick(&mut table[..size], slot, at);
@@ -94,7 +98,8 @@ pub fn tick(t: [Connection; 65], size: usize, slot: usize, at: Count) -> Returne
 pub fn close(t: [Connection; 65], size: usize, slot: usize) -> Returned
     requires { ⌜ size ≤ 65 ⌝ }
     ensures { λ r. ⌜ (r .answer ≡ answerAt (take size t) slot (closeAt (take size t) slot) [])
-        × (r .table ≡ tableAfter (take size t) slot (closeAt (take size t) slot) ++ drop size t) ⌝ }
+        × (r .table ≡ tableAfter (take size t) slot (closeAt (take size t) slot)
+        ++ drop size t) ⌝ }
 {
     let mut table = t;
     let answer = table::close(&mut table[..size], slot);

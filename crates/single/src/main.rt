@@ -1,5 +1,5 @@
-// single steps|packets|messages|writes|calls|tables FILE: takes the inputs of a file one after the other, each by itself, and prints what comes of it. It is there to be
-// compared with the independent program, which makes such files.
+// single steps|packets|messages|writes|calls|tables FILE: takes the inputs of a file one after the other, each by itself, and prints what comes of it.
+// It is there to be compared with the independent program, which makes such files.
 ghost use mathlib.Core.Path.{_≡_};
 ghost use Prim.Native.Nat.{_+_, _≤_};
 ghost use lib.ListN.{length};

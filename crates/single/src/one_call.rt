@@ -1,7 +1,9 @@
 // One connection call, on a record of its own in the last slot of a table, and its line: the answer, what was written, what is delivered, and the record
 // after it. A call in the file: the record 53, kind 1 (as in a trace), now 4, room 2 (the out buffer's length), length 2, bytes.
+ghost use mathlib.Core.Path.{_≡_};
 ghost use Prim.Native.Nat.{_+_, _≤_};
 ghost use lib.ListN.{length};
+ghost use Rattle.single.specs.Record.{beginGiven};
 ghost use Rattle.single.specs.Sizes.{mostLines};
 use crate::Done;
 use crate::one_record;
@@ -33,7 +35,9 @@ pub struct Begin {
 }
 
 // Begin's bytes: role 1, settings 19, first number 2, period 4. Another size is no role.
-pub fn begin_of(bytes: &[u8]) -> Begin {
+pub fn begin_of(bytes: &[u8]) -> Begin
+    ensures { λ r. ⌜ r ≡ beginGiven (now (bytes .entry)) ⌝ }
+{
     if bytes.len() == BEGIN {
         return Begin {
             role: field::read8(bytes, 0),
@@ -44,7 +48,14 @@ pub fn begin_of(bytes: &[u8]) -> Begin {
     }
     Begin {
         role: 255,
-        settings: one_record::settings_of(&[0; 20]),
+        settings: Settings {
+            n: 0,
+            t_max: 0,
+            e: 0,
+            t_start: 0,
+            t_off: 0,
+            limit: 0,
+        },
         first: 0,
         period: 0,
     }

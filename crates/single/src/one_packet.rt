@@ -1,5 +1,5 @@
-// One packet that is written, and its line: the answer, and the bytes written. A packet in the file: link 1 (1 normal, 0 redundant), version 1, application type 1, number 2, packet type 1, room 2 (the
-// out buffer's length), length 2, user data.
+// One packet that is written, and its line: the answer, and the bytes written. A packet in the file: link 1 (1 normal, 0 redundant), version 1, application
+// type 1, number 2, packet type 1, room 2 (the out buffer's length), length 2, user data.
 ghost use Prim.Native.Nat.{_+_, _≤_};
 ghost use lib.ListN.{length};
 ghost use Rattle.single.specs.Sizes.{mostLines};

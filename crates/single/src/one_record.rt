@@ -1,7 +1,9 @@
 // A connection record as the files of calls hold it: phase 1, settings 19, own next number 2, period 4, last number 2, peer's stamp 4, arrival 4, start of the
 // wait 4, min 4, max 4 (in two's complement), errors 1, clock 4. And its words in a line, in this order.
+ghost use mathlib.Core.Path.{_≡_};
 ghost use Prim.Native.Nat.{_+_, _≤_};
 ghost use lib.ListN.{length};
+ghost use Rattle.single.specs.Record.{countAt, offsetAt, settingsAt, connectionAt};
 use clock::Count;
 use clock::Offset;
 use connection::Connection;
@@ -13,6 +15,7 @@ pub const SIZE: usize = 53;
 // Settings stand at byte 1 of a record and of begin's bytes: N 2, T_max 4, E 4, T_start 4, T_off 4, limit 1.
 pub fn settings_of(s: &[u8]) -> Settings
     requires { ⌜ 20 ≤ length (now s) ⌝ }
+    ensures { λ r. ⌜ r ≡ settingsAt (now (s .entry)) ⌝ }
 {
     Settings {
         n: field::read16(s, 1),
@@ -26,6 +29,7 @@ pub fn settings_of(s: &[u8]) -> Settings
 
 pub fn count_of(s: &[u8], at: usize) -> Count
     requires { ⌜ at + 4 ≤ length (now s) ⌝ }
+    ensures { λ r. ⌜ r ≡ countAt (now (s .entry)) at ⌝ }
 {
     Count(field::read32(s, at))
 }
@@ -33,12 +37,14 @@ pub fn count_of(s: &[u8], at: usize) -> Count
 // An offset in two's complement.
 pub fn offset_of(s: &[u8], at: usize) -> Offset
     requires { ⌜ at + 4 ≤ length (now s) ⌝ }
+    ensures { λ r. ⌜ r ≡ offsetAt (now (s .entry)) at ⌝ }
 {
     Offset::between(count_of(s, at), Count(0))
 }
 
 pub fn connection_of(s: &[u8]) -> Connection
     requires { ⌜ 53 ≤ length (now s) ⌝ }
+    ensures { λ r. ⌜ r ≡ connectionAt (now (s .entry)) ⌝ }
 {
     Connection {
         phase: field::read8(s, 0),

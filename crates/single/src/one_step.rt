@@ -1,5 +1,5 @@
-// One step over two links, at a state and places of its own, and its three lines. A step in the file: flags 1 (1 normal link up, 2 redundant link up, 4 responder,
-// 8 strict, 16 first packet), last number 2, normal place 4, redundant place 4, normal size 2, redundant size 2, the bytes of both links.
+// One step over two links, at a state and places of its own, and its three lines. A step in the file: flags 1 (1 normal link up, 2 redundant link up,
+// 4 responder, 8 strict, 16 first packet), last number 2, normal place 4, redundant place 4, normal size 2, redundant size 2, the bytes of both links.
 ghost use Prim.Native.Nat.{_+_, _*_, _≤_, _<_};
 ghost use lib.ListN.{length};
 ghost use Rattle.single.specs.Sizes.{mostLines};

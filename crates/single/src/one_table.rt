@@ -1,6 +1,6 @@
-// One connection call on a table, and its line: the answer, what was written, what is delivered, and every record after it. A call in the file: owner 1 (1: the owner
-// of 64 records, else the first records of an array are lent), records 1, size 1 (how many of them are lent), kind 1 (as in a trace), slot 8, now 4, room 2 (the out
-// buffer's length), length 2, the records, bytes.
+// One connection call on a table, and its line: the answer, what was written, what is delivered, and every record after it. A call in the file: owner 1 (1:
+// the owner of 64 records, else the first records of an array are lent), records 1, size 1 (how many of them are lent), kind 1 (as in a trace), slot 8,
+// now 4, room 2 (the out buffer's length), length 2, the records, bytes.
 ghost use mathlib.Core.Path.{_≡_};
 ghost use Prim.Native.Nat.{_+_, _*_, _≤_};
 ghost use lib.ListN.{length};

@@ -1,6 +1,6 @@
-// One message that is written from its fields, and its line: how many bytes were written, and the bytes. A message in the file: type 1, number 2, stamp 4, last peer
-// stamp 4, own count at its arrival 4, period 4, min 4, max 4 (in two's complement), check byte 1, said length of the data 4, room 2 (the out buffer's length),
-// length 2, data.
+// One message that is written from its fields, and its line: how many bytes were written, and the bytes. A message in the file: type 1, number 2, stamp 4,
+// last peer stamp 4, own count at its arrival 4, period 4, min 4, max 4 (in two's complement), check byte 1, said length of the data 4, room 2 (the out
+// buffer's length), length 2, data.
 ghost use Prim.Native.Nat.{_+_, _≤_};
 ghost use lib.ListN.{length};
 ghost use Rattle.single.specs.Sizes.{mostLines};
