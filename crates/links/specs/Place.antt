@@ -1,5 +1,4 @@
--- Where the user data stands: not only the bytes of what is handed up are said, but which bytes of memory they are, "a part of whichever of the two lent
--- buffers held the packet".
+-- Where the user data stands. LINK-PART: not only the bytes of what is handed up are said, but which bytes of memory they are.
 -- Assumes nothing.
 use Prim.Native.Nat.{ℕ, _+_}
 use mathlib.Core.Bool.{cond}

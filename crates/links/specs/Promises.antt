@@ -44,7 +44,7 @@ module _ (normal : List ℕ) (normalAt : ℕ) (redundant : List ℕ) (redundantA
   abbrev pub AnswersOfTheTable : Type 0
   AnswersOfTheTable = List·Memᴰ (step .answer) answers
 
-  -- "a link that is down stays down"
+  -- LINK-STAYS
   abbrev pub DownStaysDown : Type 0
   DownStaysDown =
       (state .«normal_up» ≡ false → step .state .«normal_up» ≡ false) × (state .«redundant_up» ≡ false → step .state .«redundant_up» ≡ false)
@@ -53,11 +53,11 @@ module _ (normal : List ℕ) (normalAt : ℕ) (redundant : List ℕ) (redundantA
   abbrev pub UsesNoMoreThanLent : Type 0
   UsesNoMoreThanLent = place step ≤ length (bytes step) → place step + step .used ≤ length (bytes step)
 
-  -- "302 to 304 use no bytes", and the link that they name goes down, and no other
+  -- LINK-UNUSED, and the link that is named goes down, and no other
   abbrev pub FaultsPutOneLinkDown : Type 0
   FaultsPutOneLinkDown = 302 ≤ step .answer → step .answer ≤ 304 → (step .used ≡ 0) × (step .state ≡ downOf (step .normal) state)
 
-  -- "every answer but 0 hands up an empty part", and no field of a packet
+  -- LINK-EMPTY, and no field of a packet
   abbrev pub OthersHandUpNothing : Type 0
   OthersHandUpNothing =
       (step .answer ≡ 0 → ⊥)
@@ -95,7 +95,7 @@ module _ (normal : List ℕ) (normalAt : ℕ) (redundant : List ℕ) (redundantA
   looksAt true = held (state .«normal_up») normal normalAt
   looksAt false = not (held (state .«normal_up») normal normalAt) && held (state .«redundant_up») redundant redundantAt
 
-  -- "The loose setting hands up any d from 1 to 32767": of a later packet of type 3 or 4 on the link looked at
+  -- LINK-LOOSE: any d from 1 to 32767, of a later packet of type 3 or 4 on the link looked at
   abbrev pub LooseHandsUp : Type 0
   LooseHandsUp =
       (link : Bool)
@@ -133,7 +133,7 @@ pub record Alike (normal redundant : List ℕ) (taken : Taken) (normal′ redund
   pub same-taken : placeless taken ≡ placeless taken′
   pub same-data : userDataOf normal redundant taken ≡ userDataOf normal′ redundant′ taken′
 
--- a step sees no more than a packet: pairs of links that agree in what is seen of them are taken alike
+-- LINK-SEEN: a step sees no more than a packet: pairs of links that agree in what is seen of them are taken alike
 abbrev pub SeesNoMoreThanAPacket : Type 0
 SeesNoMoreThanAPacket =
     (normal : List ℕ) (normalAt : ℕ) (redundant : List ℕ) (redundantAt : ℕ)

@@ -1,5 +1,5 @@
--- 01's table "Taking one packet from two links": its rows in 01's order and words, 308, 301, 302, 303, 304 (`linkRows`), 305, 309, 306, 307, 0
--- (`classDRows`), each with what follows (specs/Taken).
+-- The table of a step, its rows in LINK-ORDER: LINK-308, LINK-301, LINK-302, LINK-303, LINK-304 (`linkRows`), LINK-305, LINK-309, LINK-306, LINK-307,
+-- LINK-0 (`classDRows`), each with what follows (specs/Taken).
 -- Assumes nothing.
 use Prim.Native.Nat.{ℕ, _+_}
 use mathlib.Core.Bool.{Bool, true, false, not, cond, _||_, _&&_}
@@ -17,15 +17,15 @@ use Rattle.links.specs.declared.State.{State}
 use Rattle.links.specs.declared.Taken.{Taken}
 use Rattle.links.specs.Taken.{nothingChanges, linkDown, packetSize, dropped, handedUp}
 
--- the length of the packet at a place, "seen at 2 bytes"
+-- LINK-302: the length of the packet at a place, seen as soon as its two bytes are there
 abbrev pub lengthAt : List ℕ → ℕ → ℕ
 lengthAt s at = fieldOf s at 2
 
--- "length under 8 or over 1,032"
+-- LINK-302: under 8 or over 1,032
 unfoldable pub lengthFault : ℕ → Bool
 lengthFault length = ltb length leastLength || ltb mostLength length
 
--- a link "holds a judgeable length fault or a whole packet"; "a reader's place past the end holds no bytes"
+-- LINK-LOOK: a link has something to judge, a length that is not allowed or a packet to its last byte; LINK-PAST
 unfoldable pub holds : List ℕ → ℕ → Bool
 holds s at = leb (at + 2) (length s) && (lengthFault (lengthAt s at) || leb (at + packetSize (lengthAt s at)) (length s))
 
@@ -33,20 +33,20 @@ holds s at = leb (at + 2) (length s) && (lengthFault (lengthAt s at) || leb (at 
 abbrev pub held : Bool → List ℕ → ℕ → Bool
 held up s at = up && holds s at
 
--- "both links down"
+-- LINK-308
 unfoldable pub bothDown : State → Bool
 bothDown state = not (state .«normal_up») && not (state .«redundant_up»)
 
--- "first packet: not AU1 (responder) or AU2 (initiator), number not 0, user data under 9 or 4 bytes, or AU1 class not 3"
+-- LINK-309: a first packet that is no acceptable opening for the role
 unfoldable pub notOpening : Bool → Header → List ℕ → Bool
 notOpening responder header userData =
     not (eqb (header .kind) (cond responder au1 au2)) || openingFault (header .kind) (header .number) userData
 
--- "later: type 1 or 2, or d = 0, or d >= 32768"
+-- LINK-306: a later packet that opens again, repeats or lies behind
 unfoldable pub notLater : ℕ → ℕ → Bool
 notLater kind d = opens kind || eqb d 0 || leb 32768 d
 
--- "strict setting and d >= 2"
+-- LINK-307: a later packet that leaves some out, where the setting is strict
 unfoldable pub tooFar : Bool → ℕ → Bool
 tooFar strict d = strict && leb 2 d
 
@@ -62,7 +62,7 @@ linkRows found normal s at state rest =
     rest
 
 -- The rows of class D, of the packet at a place with its header and its user data. d is of later packets: before the first there is no number last
--- handed up.
+-- handed up (LINK-FIRST).
 unfoldable pub classDRows : Bool → ℕ → Header → List ℕ → State → Taken
 classDRows normal at header userData state =
     when (not (inClassD (header .kind))) answer dropped 305 normal header state else
@@ -75,17 +75,17 @@ classDRows normal at header userData state =
 abbrev pub rowsOf : Bool → Bool → List ℕ → ℕ → State → Taken
 rowsOf found normal s at state = linkRows found normal s at state (classDRows normal at (headerOf s at) (dataOf s at) state)
 
--- "One step looks at the normal link if it is up and holds a judgeable length fault or a whole packet; otherwise at the redundant one likewise."
+-- LINK-LOOK: at the normal link first, and where that has nothing to judge at the redundant one
 unfoldable pub takenOf : List ℕ → ℕ → List ℕ → ℕ → State → Taken
 takenOf normal normalAt redundant redundantAt state =
     when (held (state .«normal_up») normal normalAt) answer rowsOf true true normal normalAt state else
     rowsOf (held (state .«redundant_up») redundant redundantAt) false redundant redundantAt state
 
--- the part of a slice that starts there and has so many bytes; nothing where it does not lie within
+-- the part of a slice that starts there and has so many bytes; nothing where it does not lie within (LINK-MADE)
 abbrev pub partOf : List ℕ → ℕ → ℕ → List ℕ
 partOf s start size = when (leb (start + size) (length s)) answer take size (drop start s) else []
 
--- "What is handed up is the user data, a part of whichever of the two lent buffers held the packet"; "every answer but 0 hands up an empty part"
+-- LINK-PART: a part of the slice of the link that the answer names; LINK-EMPTY
 unfoldable pub userDataOf : List ℕ → List ℕ → Taken → List ℕ
 userDataOf normal redundant taken =
     when (eqb (taken .answer) 0) answer partOf (cond (taken .normal) normal redundant) (taken .start) (taken .size) else

@@ -1,4 +1,4 @@
--- The third column of 01's table "Taking one packet from two links": what follows.
+-- The third column of the table LINK-308 .. LINK-0: what follows.
 -- Assumes nothing.
 use Prim.Native.Nat.{ℕ, _+_, _-_}
 use mathlib.Core.Bool.{Bool, true, false, cond}
@@ -7,7 +7,7 @@ use Rattle.packet.specs.declared.Header.{Header}
 use Rattle.links.specs.declared.State.{State}
 use Rattle.links.specs.declared.Taken.{Taken}
 
--- "A fresh state has both links up"
+-- LINK-FRESH
 abbrev pub freshOf : Bool → Bool → State
 freshOf responder strict = record {
   «normal_up» = true;
@@ -40,7 +40,7 @@ rememberedOf number state = record {
   last = number;
 }
 
--- "Every answer but 0 hands up an empty part"
+-- LINK-EMPTY: no part and no field of a packet
 abbrev pub emptyPart : ℕ → Bool → ℕ → State → Taken
 emptyPart answer normal used state = record {
   answer = answer;
@@ -55,11 +55,11 @@ emptyPart answer normal used state = record {
   state = state;
 }
 
--- "nothing changes"; "301 and 308 name the normal link with 0 bytes used"
+-- LINK-308, LINK-301: nothing changes; LINK-NAMED
 abbrev pub nothingChanges : ℕ → State → Taken
 nothingChanges answer state = emptyPart answer true 0 state
 
--- "link down"; "302 to 304 use no bytes"
+-- LINK-302, LINK-303, LINK-304: the link goes down; LINK-UNUSED
 abbrev pub linkDown : ℕ → Bool → State → Taken
 linkDown answer normal state = emptyPart answer normal 0 (downOf normal state)
 
@@ -67,11 +67,11 @@ linkDown answer normal state = emptyPart answer normal 0 (downOf normal state)
 abbrev pub packetSize : ℕ → ℕ
 packetSize length = length + 2
 
--- "packet used, dropped"
+-- LINK-305, LINK-309, LINK-306, LINK-307: used and dropped
 abbrev pub dropped : ℕ → Bool → Header → State → Taken
 dropped answer normal header state = emptyPart answer normal (packetSize (header .length)) state
 
--- "handed up; its number is remembered": the user data stands behind the header
+-- LINK-0: handed up, and its number remembered; the user data stands behind the header
 abbrev pub handedUp : Bool → ℕ → Header → State → Taken
 handedUp normal at header state = record {
   answer = 0;

@@ -1,4 +1,4 @@
-// Taking one packet from two links: 01's table over two lent slices, a place in each, and a state that goes in and comes back by value.
+// Taking one packet from two links: the table LINK-308 .. LINK-0 over two lent slices, a place in each, and a state that goes in and comes back by value.
 ghost use mathlib.Core.Path.{_≡_};
 ghost use mathlib.Core.Bool.{true, false, cond};
 ghost use mathlib.Core.List.{List};
@@ -51,7 +51,7 @@ impl State {
     }
 }
 
-// The answers that hand up an empty part.
+// LINK-EMPTY.
 fn empty_part(answer: u16, normal: bool, used: usize, state: State) -> Taken
     ensures { λ r. ⌜ r ≡ emptyPart answer normal used state ⌝ }
 {
@@ -69,7 +69,7 @@ fn empty_part(answer: u16, normal: bool, used: usize, state: State) -> Taken
     }
 }
 
-// Link down, nothing used.
+// LINK-302, LINK-303, LINK-304: the link goes down; LINK-UNUSED.
 fn link_down(answer: u16, normal: bool, state: State) -> Taken
     ensures { λ r. ⌜ r ≡ linkDown answer normal state ⌝ }
 {
@@ -82,14 +82,14 @@ fn link_down(answer: u16, normal: bool, state: State) -> Taken
     empty_part(answer, normal, 0, after)
 }
 
-// Packet used, dropped.
+// LINK-305, LINK-309, LINK-306, LINK-307: used and dropped.
 fn drop_packet(answer: u16, normal: bool, header: Header, state: State) -> Taken
     ensures { λ r. ⌜ r ≡ dropped answer normal header state ⌝ }
 {
     empty_part(answer, normal, header.length as usize + 2, state)
 }
 
-// Handed up; its number is remembered.
+// LINK-0: handed up, and its number remembered.
 fn hand_up(normal: bool, at: usize, header: Header, state: State) -> Taken
     requires { ⌜ (leastLength ≤ header .length) × (at + headerSize < 2 ^ 64) ⌝ }
     ensures { λ r. ⌜ r ≡ handedUp normal at header state ⌝ }
@@ -111,7 +111,7 @@ fn hand_up(normal: bool, at: usize, header: Header, state: State) -> Taken
     }
 }
 
-// Length under 8 or over 1,032.
+// LINK-302: under 8 or over 1,032.
 fn length_fault(length: u16) -> bool
     ensures { λ r. ⌜ r ≡ lengthFault length ⌝ }
 {
@@ -121,7 +121,7 @@ fn length_fault(length: u16) -> bool
     packet::MOST_LENGTH < length
 }
 
-// A judgeable length fault or a whole packet. A place past the end holds no bytes.
+// LINK-LOOK: a length that is not allowed, or a packet to its last byte. LINK-PAST.
 fn holds(s: &[u8], at: usize) -> bool
     ensures { λ r. ⌜ r ≡ holds (now (s .entry)) at ⌝ }
 {
@@ -152,7 +152,7 @@ fn held(up: bool, s: &[u8], at: usize) -> bool
     false
 }
 
-// Both links down.
+// LINK-308.
 fn both_down(state: State) -> bool
     ensures { λ r. ⌜ r ≡ bothDown state ⌝ }
 {
@@ -169,7 +169,7 @@ fn opening_of(responder: bool) -> u8
     if responder { packet::AU1 } else { packet::AU2 }
 }
 
-// First packet: not AU1 (responder) or AU2 (initiator), number not 0, user data under 9 or 4 bytes, or AU1 class not 3.
+// LINK-309: no acceptable opening for the role.
 fn not_opening(responder: bool, header: Header, data: &[u8]) -> bool
     ensures { λ r. ⌜ r ≡ notOpening responder header (now («data» .entry)) ⌝ }
 {
@@ -179,7 +179,7 @@ fn not_opening(responder: bool, header: Header, data: &[u8]) -> bool
     packet::opening_fault(header.kind, header.number, data)
 }
 
-// Later: type 1 or 2, or d = 0, or d >= 32768.
+// LINK-306: opens again, repeats or lies behind.
 fn not_later(kind: u8, d: u16) -> bool
     ensures { λ r. ⌜ r ≡ notLater kind d ⌝ }
 {
@@ -192,7 +192,7 @@ fn not_later(kind: u8, d: u16) -> bool
     32768 <= d
 }
 
-// Strict setting and d >= 2.
+// LINK-307: leaves some out, where the setting is strict.
 fn too_far(strict: bool, d: u16) -> bool
     ensures { λ r. ⌜ r ≡ tooFar strict d ⌝ }
 {
@@ -292,7 +292,7 @@ pub fn take<'a>(
     empty_part(301, true, 0, state)
 }
 
-// A part of a slice, nothing where it does not lie within.
+// A part of a slice, nothing where it does not lie within (LINK-MADE).
 fn part<'a>(s: &'a [u8], start: usize, size: usize) -> &'a [u8]
     ensures { λ r. ⌜ (now r ≡ partOf (now (s .entry)) start size) × (r .ptr ≡ partPlace (s .entry) start size) ⌝ }
 {
@@ -306,7 +306,7 @@ fn part<'a>(s: &'a [u8], start: usize, size: usize) -> &'a [u8]
     &s[start..end]
 }
 
-// The user data that a step hands up, a part of the normal or the redundant link's own slice.
+// The user data that a step hands up, a part of the normal or the redundant link's own slice (LINK-PART, LINK-EMPTY).
 pub fn user_data<'a>(normal: &'a [u8], redundant: &'a [u8], taken: Taken) -> &'a [u8]
     ensures { λ r. ⌜ (now r ≡ userDataOf (now (normal .entry)) (now (redundant .entry)) taken)
         × (r .ptr ≡ userDataPlace (normal .entry) (redundant .entry) taken) ⌝ }
@@ -320,7 +320,7 @@ pub fn user_data<'a>(normal: &'a [u8], redundant: &'a [u8], taken: Taken) -> &'a
     part(redundant, taken.start, taken.size)
 }
 
-// A link reader holds the bytes it was lent and its place in them.
+// LINK-READER: the bytes that were lent, and a place in them.
 pub struct LinkReader<'a> {
     pub bytes: &'a [u8],
     pub at: usize,

@@ -1,4 +1,4 @@
--- What `cut` prints: a heading, a line for each step, and how many packets were handed up.
+-- CUT-1: what `cut` prints, a heading, a line for each step, and how many packets were handed up.
 -- Assumes nothing.
 use Prim.Native.Nat.{ℕ, _+_, _*_}
 use mathlib.Core.Bool.{Bool, cond}
@@ -10,7 +10,7 @@ use Rattle.links.specs.declared.Taken.{Taken}
 abbrev pub heading : List ℕ
 heading = ascii "link answer used type number data\n"
 
--- the link "as the answer names it"
+-- the link that the answer names
 abbrev pub linkName : Bool → List ℕ
 linkName normal = cond normal (ascii "normal") (ascii "redundant")
 
@@ -18,7 +18,7 @@ linkName normal = cond normal (ascii "normal") (ascii "redundant")
 abbrev pub numberText : ℕ → List ℕ
 numberText n = ascii " " ++ decimalOf n
 
--- "type, number and the count of user data bytes are those of what is handed up"
+-- type, number and count of user data bytes of what is handed up
 abbrev pub handedUpText : ℕ → ℕ → ℕ → List ℕ
 handedUpText kind number size = numberText kind ++ numberText number ++ numberText size ++ ascii "\n"
 
@@ -28,7 +28,7 @@ lineOf taken =
     linkName (taken .normal) ++ numberText (taken .answer) ++ numberText (taken .used)
     ++ handedUpText (taken .kind) (taken .number) (taken .size)
 
--- "the last line counts the packets handed up"
+-- the last line counts the packets handed up
 abbrev pub endOf : ℕ → List ℕ
 endOf count = ascii "end" ++ numberText count ++ ascii "\n"
 

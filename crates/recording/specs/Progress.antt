@@ -19,7 +19,7 @@ abbrev pub takenAt : List ℕ → List ℕ → Progress → Taken
 takenAt normal redundant p =
     takenOf (take (p .normal .to) normal) (p .normal .from) (take (p .redundant .to) redundant) (p .redundant .from) (p .state)
 
--- "takes packets until a step answers 301 or 308"
+-- CUT-2: the first 301 or 308 is the last answer
 unfoldable pub lastAnswer : ℕ → Bool
 lastAnswer answer = eqb answer 301 || eqb answer 308
 

@@ -1,5 +1,4 @@
--- The promise of the windows: however two files are read into their windows, what is printed is what `cut` prints for the whole files, "so that the answers
--- are those of the whole files lent at once".
+-- CUT-3, the promise of the windows: however two files are read into their windows, what is printed is what `cut` prints for the whole files.
 -- Assumes nothing.
 use Prim.Native.Nat.{ℕ, _-_, _≤_}
 use mathlib.Core.Path.{_≡_}
@@ -123,7 +122,8 @@ placeOf size at =
     at
 
 -- One turn: room for a line; both windows topped up, so that neither is low; a step over them, with its line put into the out buffer.
-pub record TurnOf (normal redundant : List ℕ) (p : Progress) (out : List ℕ) (at : ℕ) (normalAfter redundantAfter outAfter : List ℕ) (r : Advanced) : Type 0 where
+pub record TurnOf (normal redundant : List ℕ) (p : Progress) (out : List ℕ) (at : ℕ) (normalAfter redundantAfter outAfter : List ℕ) (r : Advanced)
+    : Type 0 where
   pub first : Window
   pub second : Window
   pub up-normal : ToppedUp normal (p .normal) normalAfter first

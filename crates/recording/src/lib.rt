@@ -210,7 +210,8 @@ pub fn advance<'a>(
     requires { ⌜ (lowOf mostBytes (p .normal) ≡ false) × (lowOf mostBytes (p .redundant) ≡ false) ⌝ }
     requires { ⌜ p .«handed_up» + 1 < 2 ^ 64 ⌝ }
     ensures { λ r. ⌜ AdvancedTo (now (normal .entry)) (now (redundant .entry)) p (now (out .entry)) at (now (out .exit)) r ⌝ }
-    ensures { λ r. ⌜ Lies (r .progress) (length (now (normal .entry))) (length (now (redundant .entry))) × (r .progress .«handed_up» ≤ p .«handed_up» + 1) × (r .next ≤ at + mostLine) ⌝ }
+    ensures { λ r. ⌜ Lies (r .progress) (length (now (normal .entry))) (length (now (redundant .entry)))
+        × (r .progress .«handed_up» ≤ p .«handed_up» + 1) × (r .next ≤ at + mostLine) ⌝ }
 {
     let taken = take(normal, redundant, p);
     let size = count_data(normal, redundant, p, taken);
