@@ -63,7 +63,7 @@ nothingChanges answer state = emptyPart answer true 0 state
 abbrev pub linkDown : ℕ → Bool → State → Taken
 linkDown answer normal state = emptyPart answer normal 0 (downOf normal state)
 
--- all bytes of a packet: the length counts those after its own field of 2
+-- LINK-USED: all bytes of a packet, since the length counts those after its own field of 2
 abbrev pub packetSize : ℕ → ℕ
 packetSize length = length + 2
 

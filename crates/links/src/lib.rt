@@ -21,7 +21,7 @@ pub struct State {
     pub last: u16,
 }
 
-// What one step answers: how many bytes of which link are used up, and of what is handed up the place in that link's slice and its fields.
+// LINK-USED: what one step answers, the link that it names and how many of its bytes are used; of what is handed up its place in that link's slice, and its fields.
 pub struct Taken {
     pub answer: u16,
     pub normal: bool,

@@ -47,7 +47,7 @@ outBefore (send now lent out) = out
 outBefore (tick now) = []
 outBefore close = []
 
--- the numbers that 01 lists for it
+-- CALL-BEGIN, CALL-RECEIVE, CALL-SEND, CALL-TICK, CALL-CLOSE: the numbers that are listed for it
 abbrev pub numbersOf : Call → List ℕ
 numbersOf (begin role settings first period now out) = beginNumbers
 numbersOf (receive now message out) = receiveNumbers
@@ -65,19 +65,19 @@ tableThen table slot call = tableAfter table slot (outcomeOf call (recordAt tabl
 abbrev pub outThen : List Connection → ℕ → Call → List ℕ
 outThen table slot call = outAt table slot (outcomeOf call (recordAt table slot)) (lentTo call) (outBefore call)
 
--- ---- "A call on one slot neither reads nor changes another"
+-- ---- TABLE-3, TABLE-4: another slot is neither read nor changed
 
--- every other record is as it was, and there are as many
+-- TABLE-3: every other record is as it was, and there are as many
 pub record ChangesNoOther (table : List Connection) (slot : ℕ) (after : List Connection) : Type 0 where
   pub same-size : length after ≡ length table
   pub same-others : (other : ℕ) (d : Connection) → other ≢ slot → getD after other d ≡ getD table other d
 
--- "two tables of allowed size that agree at that slot": each has it, or neither, and the record there is the same
+-- TABLE-4: two tables agree at a slot where each has it, or neither, and the record there is the same
 pub record Agree (slot : ℕ) (one two : List Connection) : Type 0 where
   pub same-slot : badSlot (length one) slot ≡ badSlot (length two) slot
   pub same-record : recordAt one slot ≡ recordAt two slot
 
--- "get the same answer there", and the same record and the same bytes
+-- TABLE-4: the call gets the same answer there, leaves the same record and writes the same bytes
 pub record SameThere (slot : ℕ) (call : Call) (one two : List Connection) : Type 0 where
   pub same-answer : answerTo one slot call ≡ answerTo two slot call
   pub same-next : recordAt (tableThen one slot call) slot ≡ recordAt (tableThen two slot call) slot
@@ -88,12 +88,12 @@ pub data OnOthers (slot : ℕ) (table : List Connection) : List Connection → T
   none : OnOthers slot table table
   after : {before : List Connection} → OnOthers slot table before → (other : ℕ) (call : Call) → other ≢ slot → OnOthers slot table (tableThen before other call)
 
--- so a slot's record is "as the call before left it", the call on that slot
+-- TABLE-3: so a slot's record is as the last call on that slot left it
 pub record LeftAsItWas (slot : ℕ) (table after : List Connection) : Type 0 where
   pub same-size : length after ≡ length table
   pub same-record : recordAt after slot ≡ recordAt table slot
 
--- ---- "no record, no lent byte and no remembered clock changes"
+-- ---- CALL-KEPT: after a caller's fault all is as before
 pub record Untouched (table : List Connection) (slot : ℕ) (call : Call) : Type 0 where
   pub same-table : tableThen table slot call ≡ table
   pub same-out : outThen table slot call ≡ outBefore call
@@ -105,9 +105,9 @@ pub record Untouched (table : List Connection) (slot : ℕ) (call : Call) : Type
 abbrev pub AllValid : List Connection → Type 0
 AllValid table = (slot : ℕ) → slot < length table → Valid (recordAt table slot)
 
--- ---- all of it, of any table, slot and call
+-- ---- DEMAND-1: all of it, of any table, slot and call
 pub record Promises (table : List Connection) (slot : ℕ) (call : Call) : Type 0 where
-  -- the slot's record moves as the call by value says, and the answer is its answer
+  -- TABLE-2: the slot's record moves as the call by value says, and the answer is its answer
   pub next-record : badSlot (length table) slot ≡ false → recordAt (tableThen table slot call) slot ≡ outcomeOf call (recordAt table slot) .next
   pub same-number : badSlot (length table) slot ≡ false → answerTo table slot call .number ≡ outcomeOf call (recordAt table slot) .answer
   pub changes-no-other : ChangesNoOther table slot (tableThen table slot call)
@@ -115,5 +115,5 @@ pub record Promises (table : List Connection) (slot : ℕ) (call : Call) : Type 
   pub number-listed : answerTo table slot call .number among numbersOf call ≡ true
   pub refusal-changes-nothing : callersFault (answerTo table slot call .number) ≡ true → Untouched table slot call
   pub stays-valid : AllValid table → AllValid (tableThen table slot call)
-  -- "a released slot is all zero"
+  -- RECORD-3
   pub released-is-zero : Valid (recordAt table slot) → answerTo table slot call .released ≡ true → recordAt (tableThen table slot call) slot ≡ released

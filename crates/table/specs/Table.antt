@@ -13,7 +13,7 @@ use Rattle.judging.specs.declared.Outcome.{Outcome}
 use Rattle.calls.specs.declared.Answer.{Answer}
 use Rattle.calls.specs.Calls.{beginOutcome, receiveOutcome, sendOutcome, tickOutcome, closeOutcome, answerOf, outAfter}
 
--- 101 bad slot or table size: 1 to 64 records; a slot is an index
+-- TABLE-1, CALL-101: a table has 1 to 64 records; a slot is an index
 unfoldable pub badSlot : ℕ → ℕ → Bool
 badSlot size slot = eqb size 0 || ltb 64 size || leb size slot
 
@@ -21,23 +21,23 @@ badSlot size slot = eqb size 0 || ltb 64 size || leb size slot
 abbrev pub recordAt : List Connection → ℕ → Connection
 recordAt table slot = getD table slot released
 
--- 101: no record and no lent byte changes
+-- CALL-KEPT: the answer to a bad slot
 abbrev pub refusal : Answer
 refusal = record { number = 101; released = false; written = 0; delivered = 0 }
 
--- the answer to a call that comes to o on that slot's record, where these bytes were lent to send
+-- TABLE-2: the answer to a call that comes to o on that slot's record, where these bytes were lent to send
 unfoldable pub answerAt : List Connection → ℕ → Outcome → List ℕ → Answer
 answerAt table slot o lent =
     when badSlot (length table) slot answer refusal else
     answerOf o lent
 
--- the table after it
+-- TABLE-2: the table after it
 unfoldable pub tableAfter : List Connection → ℕ → Outcome → List Connection
 tableAfter table slot o =
     when badSlot (length table) slot answer table else
     set table slot (o .next)
 
--- the out buffer after it
+-- CALL-OUT: the out buffer after it
 unfoldable pub outAt : List Connection → ℕ → Outcome → List ℕ → List ℕ → List ℕ
 outAt table slot o lent out =
     when badSlot (length table) slot answer out else
