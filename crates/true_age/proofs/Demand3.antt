@@ -1,14 +1,17 @@
 -- Demand 3: how old a message that is judged fresh can truly be.
 -- Assumes nothing.
 use Prim.Native.Nat.{ℕ, _+_, _^_, _<_}
-use mathlib.Core.Path.{_≡_, refl, subst}
+use mathlib.Core.Path.{_≡_, refl, sym, ap, subst, _∙_}
 use mathlib.Core.List.{List}
 use lib.IntN.{ℤ}
-use Rattle.clock.specs.Clock.{verdictOf}
+use Rattle.clock.specs.Clock.{ageOf, verdictOf}
+use Rattle.clock.specs.declared.Count.{Count}
+use Rattle.clock.specs.declared.Offset.{Offset}
 use Rattle.message.specs.declared.Header.{Header}
 use Rattle.connection.specs.declared.Settings.{Settings}
 use Rattle.connection.specs.declared.Connection.{Connection}
 use Rattle.faults.specs.Faults.{messageAge}
+use Rattle.judging.specs.Judging.{offsetBetween}
 use Rattle.calls.specs.Calls.{receiveOutcome}
 use Rattle.true_age.specs.Clocks.{World, InBand, countOf}
 use Rattle.true_age.specs.History.{Ours, Written, Judged}
@@ -28,9 +31,17 @@ module _ (W : World) (began : W .Moment) (j role : ℕ) (settings : Settings) (l
   true-age = trueAge W (m .sent) u
 
   -- the record's age is by our count, the peer's stamp, E, and the offset that the set-up gave
+  age-is : age ≡ ageOf (countOf (W .ours u) .0) (countOf (W .peers (m .sent)) .0) (settings .e)
+      (offsetBetween (countOf (W .ours (own .ours .at))) (countOf (W .peers (W .arrived 0))) .0)
+  age-is =
+      ap (λ (s : Settings). ageOf (countOf (W .ours u) .0) (h .stamp .0) (s .e) (c .min .0)) same
+      ∙ ap (λ (stamp : Count). ageOf (countOf (W .ours u) .0) (stamp .0) (settings .e) (c .min .0)) (m .stamped)
+      ∙ ap (λ (min : Offset). ageOf (countOf (W .ours u) .0) (countOf (W .peers (m .sent)) .0) (settings .e) (min .0))
+      (own .gave ∙ ap (λ (stamp : Count). offsetBetween stamp (countOf (W .peers (W .arrived 0)))) (own .stamped))
+
   bounds : true-age + settings .e + j + transit W (own .ours) < 2 ^ 31 → Bounds true-age (settings .e) j (transit W (own .ours)) age
   bounds small =
-      rw (same, m .stamped, own .gave, own .stamped)
+      subst (Bounds true-age (settings .e) j (transit W (own .ours))) (sym age-is)
       (age-bounds W began j (settings .e) (own .ours .at) (W .arrived 0) (m .sent) u band (own .since)
       (W .early-trans (own .ours .at) t u (own .before) next) (own .onward) (m .since) (m .onward) small)
 
