@@ -79,8 +79,8 @@ pub record RefilledFrom (before : List ℕ) (w : Window) (after : List ℕ) (r :
   pub failed : r .failed ≡ failedBy (r .last)
   pub full : r .failed ≡ false → r .window .ended ≡ false → r .window .to ≡ length before
 
--- OPEN-2: two refills that one input allows agree where their last reads do: in the window, in whether they failed, and in the bytes that were left. Which bytes
--- were read stays open.
+-- OPEN-2: two refills that one input allows agree where their last reads do: in the window, in whether they failed, and in the bytes that were left. Which
+-- bytes were read stays open.
 abbrev pub RefillsAgree : Type 0
 RefillsAgree = (before : List ℕ) (w : Window) (after after′ : List ℕ) (r r′ : Refilled)
     → RefilledFrom before w after r → RefilledFrom before w after′ r′ → r .last ≡ r′ .last
