@@ -343,7 +343,9 @@ impl Trial {
         let start = if step.answer == 0 { place + packet::HEADER } else { 0 };
         let first = format!("{} {} {} {} {} {}", step.link.name(), step.answer, step.used, taken.kind, taken.number, taken.data.len());
         let second = format!("state {} {} {} {start}", state_text(&after), taken.version, taken.application);
-        format!("{first}\n{second}\ndata {}", hex(taken.data))
+        let lines = format!("{first}\n{second}\ndata {}", hex(taken.data));
+        // as the links are lent, and by readers
+        format!("{lines}\n{lines}")
     }
 }
 

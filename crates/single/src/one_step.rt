@@ -1,5 +1,6 @@
-// One step over two links, at a state and places of its own, and its three lines. A step in the file: flags 1 (1 normal link up, 2 redundant link up,
-// 4 responder, 8 strict, 16 first packet), last number 2, normal place 4, redundant place 4, normal size 2, redundant size 2, the bytes of both links.
+// One step over two links, at a state and places of its own, and its six lines: three as the links are lent, and the same three by readers. A step in the
+// file: flags 1 (1 normal link up, 2 redundant link up, 4 responder, 8 strict, 16 first packet), last number 2, normal place 4, redundant place 4, normal
+// size 2, redundant size 2, the bytes of both links.
 ghost use Prim.Native.Nat.{_+_, _*_, _≤_, _<_};
 ghost use lib.ListN.{length};
 ghost use Rattle.single.specs.Sizes.{mostLines};
@@ -121,6 +122,46 @@ fn put_taken(out: &mut [u8], at: usize, s: &[u8], middle: usize, end: usize) -> 
     put_step(out, at, taken, data)
 }
 
+// The user data that a step over two readers hands up.
+fn data_by_readers<'a>(
+    normal: &'a [u8],
+    normal_place: usize,
+    redundant: &'a [u8],
+    redundant_place: usize,
+    taken: Taken,
+) -> &'a [u8]
+    requires { ⌜ (length (now normal) ≤ 7168) × (length (now redundant) ≤ 7168) ⌝ }
+    ensures { λ r. ⌜ length (now r) ≤ 7168 ⌝ }
+{
+    links::handed_up_by_readers(normal, normal_place, redundant, redundant_place, taken)
+}
+
+// The same step by readers, and its lines.
+fn put_by_readers(out: &mut [u8], at: usize, s: &[u8], middle: usize, end: usize) -> usize
+    requires { ⌜ (15 ≤ middle) × (middle ≤ 15 + 7168) × (middle ≤ end) × (end ≤ middle + 7168) × (end ≤ length (now s)) ⌝ }
+    requires { ⌜ at + 14643 ≤ length (now out) ⌝ }
+    ensures { λ r. ⌜ r ≤ at + 14643 ⌝ }
+{
+    let state = state_of(field::read8(s, 0), field::read16(s, 1));
+    let normal_place = field::read32(s, 3) as usize;
+    let redundant_place = field::read32(s, 7) as usize;
+    let taken = links::take_by_readers(
+        &s[FIELDS..middle],
+        normal_place,
+        &s[middle..end],
+        redundant_place,
+        state,
+    );
+    let data = data_by_readers(
+        &s[FIELDS..middle],
+        normal_place,
+        &s[middle..end],
+        redundant_place,
+        taken,
+    );
+    put_step(out, at, taken, data)
+}
+
 // The step at the front of s, if it is there whole.
 pub fn step_at(s: &[u8], out: &mut [u8]) -> Done
     requires { ⌜ mostLines ≤ length (now out) ⌝ }
@@ -142,8 +183,9 @@ pub fn step_at(s: &[u8], out: &mut [u8]) -> Done
     if s.len() < end {
         return Done { next: 0, used: 0 };
     }
+    let after_taken = put_taken(out, 0, s, middle, end);
     Done {
-        next: put_taken(out, 0, s, middle, end),
+        next: put_by_readers(out, after_taken, s, middle, end),
         used: end,
     }
 }

@@ -31,7 +31,7 @@ delivered-requires c κs = search needs
 put-bytes-requires : tie.Need-put-bytes-requires
 put-bytes-requires c κs =
     let a = c .before .before .before .before .before .before .before .before .before .before .args in
-    omega (arith, ap length (c .delivered .ensures), no-longer (a .bytes .now) (a .count), c .before .before .before .before .put2 .ensures .place)
+    omega (arith, ap length (c .delivered .ensures .0), no-longer (a .bytes .now) (a .count), c .before .before .before .before .put2 .ensures .place)
 
 same-length-2 : tie.Need-same-length-2
 same-length-2 c = search needs
@@ -39,7 +39,7 @@ same-length-2 c = search needs
 returns-2 : tie.Need-returns-2
 returns-2 c =
     let a = c .before .before .before .before .before .before .before .before .before .before .before .before .before .args in
-    omega (arith, ap length (c .before .before .before .delivered .ensures), no-longer (a .bytes .now) (a .count), c .before .before .before .before .before .before .before .put2 .ensures .place, c .before .before .put-bytes .ensures .1)
+    omega (arith, ap length (c .before .before .before .delivered .ensures .0), no-longer (a .bytes .now) (a .count), c .before .before .before .before .before .before .before .put2 .ensures .place, c .before .before .put-bytes .ensures .1)
 
 pub put-delivered-spec : {M : Type 1} → statement M
 put-delivered-spec =

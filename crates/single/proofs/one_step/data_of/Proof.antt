@@ -14,7 +14,7 @@ returns : tie.Need-returns
 returns c =
     let start = c .before .before .before in
     let a = start .args in
-    omega (arith, ap length (c .user-data .ensures), user-data-within (a .normal .now) (a .redundant .now) (a .taken) 7168 (start .pre .0) (start .pre .1))
+    omega (arith, ap length (c .user-data .ensures .0), user-data-within (a .normal .now) (a .redundant .now) (a .taken) 7168 (start .pre .0) (start .pre .1))
 
 pub data-of-spec : {M : Type 1} → statement M
 data-of-spec = tie.close (tie.spec user-data-requires returns)

@@ -1,0 +1,20 @@
+-- `single::one_step::data_by_readers` meets its contract: what is handed up is no longer than the longer link. Assumes nothing.
+use mathlib.Core.Path.{ap}
+use native.Mathlib.Omega.{arith}
+use lib.ListN.{length}
+use Rattle.single.proofs.Parts.{user-data-within}
+use borrow.Author.Needs.{needs}
+use Rattle.single.proofs.one_step.data_by_readers.Statement.{statement}
+use Rattle.single.proofs.one_step.data_by_readers.Tie as tie
+
+handed-up-by-readers-requires : tie.Need-handed-up-by-readers-requires
+handed-up-by-readers-requires c κs = search needs
+
+returns : tie.Need-returns
+returns c =
+    let start = c .before .before .before in
+    let a = start .args in
+    omega (arith, ap length (c .handed-up-by-readers .ensures .0), user-data-within (a .normal .now) (a .redundant .now) (a .taken) 7168 (start .pre .0) (start .pre .1))
+
+pub data-by-readers-spec : {M : Type 1} → statement M
+data-by-readers-spec = tie.close (tie.spec handed-up-by-readers-requires returns)
