@@ -92,8 +92,7 @@ pub fn centred(a: u32, b: u32) -> i32 {
     a.wrapping_sub(b) as i32
 }
 
-/// The record's own 101: not closed, with a setting or phase out of range or an error counter not
-/// under its limit.
+/// The record's own 101 (RECORD-1).
 pub fn record_faulty(record: &Record) -> bool {
     record.phase != CLOSED
         && (!in_range(&record.settings)
@@ -131,7 +130,7 @@ pub fn first_message(phase: u8) -> bool {
     phase == INITIATOR_WAITS_2 || phase == RESPONDER_WAITS_1
 }
 
-/// Messages 2 to 5 must echo, as last peer stamp, the stamp of the one before (ours).
+/// ECHO-1: messages 2 to 5 echo our stamp.
 pub fn echo_judged(phase: u8) -> bool {
     wait_has_timer(phase)
 }
@@ -290,7 +289,7 @@ fn answered(heard: Record, now: u32, message: &Message, out: &mut [u8]) -> (Reco
     }
 }
 
-/// A reply of ours is stamped with the now of the call, and begins the next wait.
+/// SETUP-STAMP: a reply of ours has this now as its stamp, and begins the next wait.
 fn replied(heard: Record, now: u32, after: After, out: &mut [u8]) -> (Record, Answer) {
     let written = message::write(&stamped(&heard, now, after), out);
     let sent = Record { own_next_number: heard.own_next_number.wrapping_add(1), wait_start: now, ..heard };

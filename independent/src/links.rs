@@ -51,7 +51,7 @@ fn length_fault(length: usize) -> bool {
     length < packet::LENGTH_LEAST || length > packet::LENGTH_MOST
 }
 
-/// A judgeable length fault or a whole packet.
+/// LINK-LOOK: something to judge.
 fn judgeable(bytes: &[u8]) -> bool {
     match length_of(bytes) {
         None => false,

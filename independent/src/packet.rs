@@ -123,7 +123,7 @@ pub fn check_other_order(bytes: &[u8]) -> u16 {
     register
 }
 
-/// The fields of a packet; version and application type are kept and not judged.
+/// The fields of a packet (PKT-LAYOUT); of version and application type any value will do (PKT-KEPT).
 #[derive(Clone, Copy, PartialEq, Eq, Debug)]
 pub struct Packet<'a> {
     pub version: u8,
