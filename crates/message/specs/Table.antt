@@ -7,6 +7,58 @@ use Rattle.message.specs.declared.After.{After}
 use Rattle.message.specs.declared.After.the-variants.{Period, Nothing, Offsets, Check, Data}
 use Rattle.message.specs.declared.Listed.{Listed}
 
+-- ---- the types, by their numbers
+
+-- MSG-1
+abbrev pub offsetStart : ℕ
+offsetStart = 1
+
+-- MSG-2
+abbrev pub offsetAnsw1 : ℕ
+offsetAnsw1 = 2
+
+-- MSG-3
+abbrev pub offsetAnsw2 : ℕ
+offsetAnsw2 = 3
+
+-- MSG-4
+abbrev pub offsetEst : ℕ
+offsetEst = 4
+
+-- MSG-5
+abbrev pub offsetEnd : ℕ
+offsetEnd = 5
+
+-- MSG-6
+abbrev pub application : ℕ
+application = 6
+
+-- ---- sizes
+
+-- MSG-HEAD: each message begins with so many bytes
+abbrev pub headerSize : ℕ
+headerSize = 15
+
+-- MSG-1, MSG-2: the total of OffsetStart and OffsetAnsw1
+abbrev pub startSize : ℕ
+startSize = 19
+
+-- MSG-4: the total of OffsetEst, the longest message of set-up
+abbrev pub estSize : ℕ
+estSize = 25
+
+-- MSG-5: the total of OffsetEnd
+abbrev pub endSize : ℕ
+endSize = 16
+
+-- MSG-TOTAL
+abbrev pub mostMessage : ℕ
+mostMessage = 1000
+
+-- MSG-6: what the header leaves of it
+abbrev pub mostData : ℕ
+mostData = 985
+
 infixr 2 _total_to_
 -- a row: what stands after the header, and the least and the most total
 abbrev pub _total_to_ : After → ℕ → ℕ → Listed

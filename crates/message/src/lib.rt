@@ -12,6 +12,34 @@ use clock::Count;
 use clock::Offset;
 use clock::OffsetRead;
 
+// The types, by their numbers: MSG-1 to MSG-6.
+pub const OFFSET_START: u8 = 1;
+
+pub const OFFSET_ANSW1: u8 = 2;
+
+pub const OFFSET_ANSW2: u8 = 3;
+
+pub const OFFSET_EST: u8 = 4;
+
+pub const OFFSET_END: u8 = 5;
+
+pub const APPLICATION: u8 = 6;
+
+// The bytes that each message begins with (MSG-HEAD).
+pub const HEADER_SIZE: usize = 15;
+
+// The totals of OffsetStart and OffsetAnsw1, of OffsetEst and of OffsetEnd.
+pub const START_SIZE: usize = 19;
+
+pub const EST_SIZE: usize = 25;
+
+pub const END_SIZE: usize = 16;
+
+// The most bytes of a message (MSG-TOTAL), and of its application data.
+pub const MOST_MESSAGE: usize = 1000;
+
+pub const MOST_DATA: usize = 985;
+
 // The 15 bytes that each message begins with (MSG-HEAD).
 pub struct Header {
     pub kind: u8,
