@@ -9,10 +9,10 @@ use lib.ListN.{length}
 use Rattle.rules.specs.Rows.{when_answer_else_}
 use Rattle.message.specs.Read.{dataOf}
 use Rattle.connection.specs.declared.Connection.{Connection}
-use Rattle.faults.specs.Faults.{messageAge}
+use Rattle.peer_faults.specs.Faults.{messageAge}
 use Rattle.calls.specs.declared.Answer.{Answer}
 use Rattle.calls.specs.Calls.{answerOf, receiveOutcome, deliveredOf}
-use Rattle.calls.specs.Promises.{deliversTo}
+use Rattle.promises.specs.Promises.{deliversTo}
 use Rattle.table.specs.Table.{badSlot, recordAt, refusal, answerAt}
 use Rattle.table.specs.Promises.{receive, answerTo}
 use Rattle.table.proofs.Promises.{promises}

@@ -12,7 +12,7 @@ use Rattle.rules.specs.Rows.{when_answer_else_}
 use Rattle.clock.specs.declared.Count.{Count}
 use Rattle.connection.specs.declared.Settings.{Settings}
 use Rattle.connection.specs.declared.Connection.{Connection}
-use Rattle.judging.specs.declared.Outcome.{Outcome}
+use Rattle.what_follows.specs.declared.Outcome.{Outcome}
 use Rattle.calls.specs.Calls.{answerOf}
 use Rattle.table.specs.Table.{badSlot, recordAt, refusal, answerAt}
 use Rattle.table.specs.Promises.{Call, begin, receive, send, tick, close, outcomeOf, lentTo, answerTo, tableThen, none, after, LeftAsItWas, Promises}

@@ -12,7 +12,7 @@ use Rattle.message.specs.declared.Parsed.{Parsed}
 use Rattle.connection.specs.declared.Settings.{Settings}
 use Rattle.connection.specs.declared.Connection.{Connection}
 use Rattle.connection.specs.Connection.{opened}
-use Rattle.faults.specs.Faults.{messageAge}
+use Rattle.peer_faults.specs.Faults.{messageAge}
 use Rattle.calls.specs.declared.Answer.{Answer}
 use Rattle.table.specs.Table.{recordAt}
 use Rattle.table.specs.Promises.{receive, answerTo}

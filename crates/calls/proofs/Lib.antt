@@ -1,5 +1,1 @@
 pub mod Replies
-pub mod Promises
-pub mod Valid
-pub mod Opening
-pub mod Delivery

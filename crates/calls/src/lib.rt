@@ -6,12 +6,15 @@ ghost use Prim.Native.Nat.{_+_, _^_, _≤_, _<_};
 ghost use lib.ListN.{length};
 ghost use lib.Seq.{sets};
 ghost use Rattle.message.specs.Read.{dataPlace};
+ghost use Rattle.connection.specs.Connection.{noCount};
+ghost use Rattle.calls.specs.declared.Call.{Call};
 ghost use Rattle.calls.specs.Calls.{
   closeRefusal,
   tickRefusal,
   receiveRefusal,
   sendRefusal,
   beginRefusal,
+  refused,
   expired,
   receiveOutcome,
   tickOutcome,
@@ -19,29 +22,67 @@ ghost use Rattle.calls.specs.Calls.{
   dataHeader,
   sendOutcome,
   startHeader,
+  startSent,
   beginOutcome,
+  outcomeOf,
   replyBytes,
+  says,
+  refusal,
   calledWith,
-  calledOf,
-  outAfter,
+  given,
+  leaves,
+  made,
   writable,
   deliveredOf,
 };
 use clock::Count;
+use connection::CLOSED;
 use connection::Connection;
+use connection::INITIATOR_WAITS_FOR_2;
+use connection::OPENED;
+use connection::Own;
+use connection::RESPONDER_WAITS_FOR_1;
 use connection::Settings;
-use judging::Outcome;
-use judging::Reply;
+use message::APPLICATION;
+use message::EST_SIZE;
+use message::HEADER_SIZE;
 use message::Header;
+use message::MOST_DATA;
+use message::OFFSET_START;
+use message::START_SIZE;
 use message::Tail;
+use what_follows::Outcome;
+use what_follows::Reply;
 
+// The roles, by their numbers: CALL-104.
+pub const INITIATOR: u8 = 0;
+
+pub const RESPONDER: u8 = 1;
+
+// What begin is given for the whole of the connection: the role, the settings, the first number and the period.
+pub struct Given {
+    pub role: u8,
+    pub settings: Settings,
+    pub own: Own,
+}
+
+// A call, with what the caller passes by value beside the now; the bytes to read and the out buffer are lent.
+pub enum Call {
+    Begin(Given),
+    Receive,
+    Send,
+    Tick,
+    Close,
+}
+
+// What a call says.
 pub struct Answer {
     // 0, or the number of the fault.
     pub number: u16,
     pub released: bool,
     // How many bytes were written at the start of the out buffer.
     pub written: usize,
-    // How many bytes of the message, from byte 15 on, are delivered.
+    // How many bytes of the message, from its application data on, are delivered.
     pub delivered: usize,
 }
 
@@ -55,7 +96,7 @@ pub struct Called {
 fn close_refusal(c: Connection) -> u16
     ensures { λ r. ⌜ r ≡ closeRefusal c ⌝ }
 {
-    if c.phase == 0 {
+    if c.phase == CLOSED {
         return 102;
     }
     if c.unsound() {
@@ -85,7 +126,7 @@ fn receive_refusal(c: Connection, now: Count, room: usize) -> u16
 {
     let k = tick_refusal(c, now);
     if k == 0 {
-        if room < 25 {
+        if room < EST_SIZE {
             return 108;
         }
         return 0;
@@ -99,13 +140,13 @@ fn send_refusal(c: Connection, now: Count, size: usize, room: usize) -> u16
 {
     let k = tick_refusal(c, now);
     if k == 0 {
-        if c.phase != 6 {
+        if c.phase != OPENED {
             return 106;
         }
-        if 985 < size {
+        if MOST_DATA < size {
             return 107;
         }
-        if room < 15 + size {
+        if room < HEADER_SIZE + size {
             return 108;
         }
         return 0;
@@ -113,24 +154,25 @@ fn send_refusal(c: Connection, now: Count, size: usize, room: usize) -> u16
     k
 }
 
-// CALL-104 and CALL-108 of a closed slot.
-fn begin_refusal(c: Connection, role: u8, settings: Settings, room: usize) -> u16
-    ensures { λ r. ⌜ r ≡ beginRefusal c role settings room ⌝ }
+// CALL-BEGIN.
+fn begin_refusal(c: Connection, g: Given, room: usize) -> u16
+    ensures { λ r. ⌜ r ≡ beginRefusal c g room ⌝ }
 {
-    if c.phase != 0 {
+    if c.phase != CLOSED {
         if c.unsound() {
             return 101;
         }
         return 103;
     }
-    if 1 < role {
+    if RESPONDER < g.role {
         return 104;
     }
+    let settings = g.settings;
     if settings.out_of_range() {
         return 104;
     }
-    if role == 0 {
-        if room < 19 {
+    if g.role == INITIATOR {
+        if room < START_SIZE {
             return 108;
         }
         return 0;
@@ -138,14 +180,21 @@ fn begin_refusal(c: Connection, role: u8, settings: Settings, room: usize) -> u1
     0
 }
 
+// CALL-KEPT: nothing changes.
+fn refused(number: u16, c: Connection) -> Outcome
+    ensures { λ r. ⌜ r ≡ refused number c ⌝ }
+{
+    what_follows::kept(number, 0, c)
+}
+
 // WAIT-1, WAIT-2: whether a wait begun by a send is over.
-fn has_expired(c: Connection, now: Count) -> bool
+fn expired(c: Connection, now: Count) -> bool
     ensures { λ r. ⌜ r ≡ expired c now ⌝ }
 {
-    if c.phase == 3 {
+    if c.phase == RESPONDER_WAITS_FOR_1 {
         return false;
     }
-    if c.phase == 6 {
+    if c.phase == OPENED {
         return false;
     }
     let settings = c.settings;
@@ -153,76 +202,82 @@ fn has_expired(c: Connection, now: Count) -> bool
     settings.t_start <= now.waited(since)
 }
 
-fn receive_outcome(c: Connection, at: Count, message: &[u8], room: usize) -> Outcome
-    ensures { λ r. ⌜ r ≡ receiveOutcome c at (now (message .entry)) room ⌝ }
+// WAIT-4, PEER-ORDER.
+fn receive_outcome(c: Connection, now: Count, message: &[u8], room: usize) -> Outcome
+    ensures { λ r. ⌜ r ≡ receiveOutcome c now (message .entry .now) room ⌝ }
 {
-    let k = receive_refusal(c, at, room);
+    let k = receive_refusal(c, now, room);
     if k != 0 {
-        return judging::kept(k, 0, c);
+        return refused(k, c);
     }
-    if has_expired(c, at) {
-        return judging::released(207, 0);
+    if expired(c, now) {
+        return what_follows::released(207, 0);
     }
-    judging::step(c, at, message::parse(message))
+    what_follows::step(c, now, message::parse(message))
 }
 
+// WAIT-4.
 fn tick_outcome(c: Connection, now: Count) -> Outcome
     ensures { λ r. ⌜ r ≡ tickOutcome c now ⌝ }
 {
     let k = tick_refusal(c, now);
     if k != 0 {
-        return judging::kept(k, 0, c);
+        return refused(k, c);
     }
-    if has_expired(c, now) {
-        return judging::released(207, 0);
+    if expired(c, now) {
+        return what_follows::released(207, 0);
     }
-    judging::kept(0, 0, c.clocked(now))
+    what_follows::kept(0, 0, c.clocked(now))
 }
 
+// CALL-CLOSE.
 fn close_outcome(c: Connection) -> Outcome
     ensures { λ r. ⌜ r ≡ closeOutcome c ⌝ }
 {
     let k = close_refusal(c);
     if k != 0 {
-        return judging::kept(k, 0, c);
+        return refused(k, c);
     }
-    judging::released(0, 0)
+    what_follows::released(0, 0)
 }
 
+// SEND-1.
 fn data_header(c: Connection, now: Count) -> Header
     ensures { λ r. ⌜ r ≡ dataHeader c now ⌝ }
 {
-    let peer_stamp = c.peer_stamp;
-    let arrival = c.arrival;
+    let stamp = c.peer.stamp;
+    let arrival = c.peer.arrival;
     Header {
-        kind: 6,
-        number: c.own_number,
+        kind: APPLICATION,
+        number: c.own.number,
         stamp: now,
-        last_peer_stamp: peer_stamp,
+        last_peer_stamp: stamp,
         arrival,
     }
 }
 
+// NUMBER-1.
 fn send_outcome(c: Connection, now: Count, size: usize, room: usize) -> Outcome
     requires { ⌜ size < 2 ^ 63 ⌝ }
     ensures { λ r. ⌜ r ≡ sendOutcome c now size room ⌝ }
 {
     let k = send_refusal(c, now, size, room);
     if k != 0 {
-        return judging::kept(k, 0, c);
+        return refused(k, c);
     }
-    judging::sending(
+    what_follows::sending(
         data_header(c, now),
         Tail::with_data(size),
         c.clocked(now).sent(),
     )
 }
 
+// SETUP-1: OffsetStart.
 fn start_header(first: u16, now: Count) -> Header
     ensures { λ r. ⌜ r ≡ startHeader first now ⌝ }
 {
     Header {
-        kind: 1,
+        kind: OFFSET_START,
         number: first,
         stamp: now,
         last_peer_stamp: Count(0),
@@ -230,109 +285,156 @@ fn start_header(first: u16, now: Count) -> Header
     }
 }
 
-fn begin_outcome(
-    c: Connection,
-    role: u8,
-    settings: Settings,
-    first: u16,
-    period: u32,
-    now: Count,
-    room: usize,
-) -> Outcome
-    ensures { λ r. ⌜ r ≡ beginOutcome c role settings first period now room ⌝ }
+// SETUP-1: what an initiator's begin comes to.
+fn start_sent(g: Given, now: Count) -> Outcome
+    ensures { λ r. ⌜ r ≡ startSent g now ⌝ }
 {
-    let k = begin_refusal(c, role, settings, room);
+    let settings = g.settings;
+    let own = g.own;
+    what_follows::sending(
+        start_header(own.number, now),
+        Tail::with_period(own.period),
+        Connection::begun(settings, own, INITIATOR_WAITS_FOR_2, now)
+            .sent()
+            .waiting(INITIATOR_WAITS_FOR_2, now),
+    )
+}
+
+// SETUP-0, SETUP-1.
+fn begin_outcome(c: Connection, g: Given, now: Count, room: usize) -> Outcome
+    ensures { λ r. ⌜ r ≡ beginOutcome c g now room ⌝ }
+{
+    let k = begin_refusal(c, g, room);
     if k != 0 {
-        return judging::kept(k, 0, c);
+        return refused(k, c);
     }
-    if role == 0 {
-        return judging::sending(
-            start_header(first, now),
-            Tail::with_period(period),
-            Connection::begun(settings, 1, first, period, now)
-                .sent()
-                .waiting(1, now),
-        );
+    if g.role == INITIATOR {
+        return start_sent(g, now);
     }
-    judging::kept(0, 0, Connection::begun(settings, 3, first, period, now))
+    let settings = g.settings;
+    let own = g.own;
+    what_follows::kept(
+        0,
+        0,
+        Connection::begun(settings, own, RESPONDER_WAITS_FOR_1, now),
+    )
+}
+
+// What a call comes to, by its rule.
+fn outcome_of(c: Connection, call: Call, now: Count, lent: &[u8], room: usize) -> Outcome
+    ensures { λ r. ⌜ r ≡ outcomeOf call c now (lent .entry .now) room ⌝ }
+{
+    match call {
+        Call::Begin(g) => begin_outcome(c, g, now, room),
+        Call::Receive => receive_outcome(c, now, lent, room),
+        Call::Send => send_outcome(c, now, lent.len(), room),
+        Call::Tick => tick_outcome(c, now),
+        Call::Close => close_outcome(c),
+    }
 }
 
 // CALL-OUT: writes what is sent at the start of out, and answers how many bytes.
-fn put(reply: Reply, data: &[u8], out: &mut [u8]) -> usize
-    requires { ⌜ writable reply (length (now out)) (length (now «data»)) ≡ true ⌝ }
-    ensures { λ r. ⌜ (r ≡ length (replyBytes reply (now («data» .entry))))
-        × (now (out .exit) ≡ sets (now (out .entry)) 0 (replyBytes reply (now («data» .entry)))) ⌝ }
+fn put(reply: Reply, lent: &[u8], out: &mut [u8]) -> usize
+    requires { ⌜ writable reply (length (now out)) (length (now lent)) ≡ true ⌝ }
+    ensures { λ r. ⌜ (r ≡ length (replyBytes reply (now (lent .entry))))
+        × (now (out .exit) ≡ sets (now (out .entry)) 0 (replyBytes reply (now (lent .entry)))) ⌝ }
 {
     match reply {
         Reply::Nothing => 0,
-        Reply::Send(h, t) => message::write(out, h, t, data),
+        Reply::Send(h, t) => message::write(out, h, t, lent),
     }
 }
 
+// Every answer is made here, of its parts in their order.
+fn says(number: u16, released: bool, written: usize, delivered: usize) -> Answer
+    ensures { λ r. ⌜ r ≡ says number released written delivered ⌝ }
+{
+    Answer {
+        number,
+        released,
+        written,
+        delivered,
+    }
+}
+
+// CALL-KEPT: what a caller's fault says.
+pub fn refusal(number: u16) -> Answer
+    ensures { λ r. ⌜ r ≡ refusal number ⌝ }
+{
+    says(number, false, 0, 0)
+}
+
 // What a call that wrote so many bytes comes to.
-fn answered(o: Outcome, written: usize) -> Called
+fn called_with(o: Outcome, written: usize) -> Called
     ensures { λ r. ⌜ r ≡ calledWith o written ⌝ }
 {
     let next = o.next;
     Called {
-        answer: Answer {
-            number: o.answer,
-            released: o.released,
-            written,
-            delivered: o.delivered,
-        },
+        answer: says(o.number, o.released, written, o.delivered),
         next,
     }
 }
 
+// Any call.
+pub fn make(c: Connection, call: Call, now: Count, lent: &[u8], out: &mut [u8]) -> Called
+    ensures { λ r. ⌜ leaves r (out .exit .now) ≡ made call c now (lent .entry .now) (out .entry .now) ⌝ }
+{
+    let o = outcome_of(c, call, now, lent, out.len());
+    let reply = o.reply;
+    let written = put(reply, lent, out);
+    called_with(o, written)
+}
+
+// CALL-BEGIN.
 pub fn begin(
     c: Connection,
     role: u8,
     settings: Settings,
     first: u16,
     period: u32,
-    at: Count,
+    now: Count,
     out: &mut [u8],
 ) -> Called
-    ensures { λ r. ⌜ (r ≡ calledOf (beginOutcome c role settings first period at (length (now (out .entry)))) [])
-        × (now (out .exit) ≡ outAfter (beginOutcome c role settings first period at (length (now (out .entry)))) [] (now (out .entry))) ⌝ }
+    ensures { λ r. ⌜ leaves r (out .exit .now) ≡ made (Call.Begin (given role settings first period)) c now [] (out .entry .now) ⌝ }
 {
-    let o = begin_outcome(c, role, settings, first, period, at, out.len());
-    let reply = o.reply;
-    let written = put(reply, b"", out);
-    answered(o, written)
+    let own = Own {
+        number: first,
+        period,
+    };
+    let g = Given {
+        role,
+        settings,
+        own,
+    };
+    make(c, Call::Begin(g), now, b"", out)
 }
 
-pub fn receive(c: Connection, at: Count, message: &[u8], out: &mut [u8]) -> Called
-    ensures { λ r. ⌜ (r ≡ calledOf (receiveOutcome c at (now (message .entry)) (length (now (out .entry)))) [])
-        × (now (out .exit) ≡ outAfter (receiveOutcome c at (now (message .entry)) (length (now (out .entry)))) [] (now (out .entry))) ⌝ }
+// CALL-RECEIVE.
+pub fn receive(c: Connection, now: Count, message: &[u8], out: &mut [u8]) -> Called
+    ensures { λ r. ⌜ leaves r (out .exit .now) ≡ made Call.Receive c now (message .entry .now) (out .entry .now) ⌝ }
 {
-    let o = receive_outcome(c, at, message, out.len());
-    let reply = o.reply;
-    let written = put(reply, b"", out);
-    answered(o, written)
+    make(c, Call::Receive, now, message, out)
 }
 
-pub fn send(c: Connection, at: Count, data: &[u8], out: &mut [u8]) -> Called
-    ensures { λ r. ⌜ (r ≡ calledOf (sendOutcome c at (length (now («data» .entry))) (length (now (out .entry)))) (now («data» .entry)))
-        × (now (out .exit) ≡ outAfter (sendOutcome c at (length (now («data» .entry))) (length (now (out .entry)))) (now («data» .entry)) (now (out .entry))) ⌝ }
+// CALL-SEND.
+pub fn send(c: Connection, now: Count, data: &[u8], out: &mut [u8]) -> Called
+    ensures { λ r. ⌜ leaves r (out .exit .now) ≡ made Call.Send c now («data» .entry .now) (out .entry .now) ⌝ }
 {
-    let o = send_outcome(c, at, data.len(), out.len());
-    let reply = o.reply;
-    let written = put(reply, data, out);
-    answered(o, written)
+    make(c, Call::Send, now, data, out)
 }
 
+// CALL-TICK: it is lent nothing.
 pub fn tick(c: Connection, now: Count) -> Called
-    ensures { λ r. ⌜ r ≡ calledOf (tickOutcome c now) [] ⌝ }
+    ensures { λ r. ⌜ leaves r [] ≡ made Call.Tick c now [] [] ⌝ }
 {
-    answered(tick_outcome(c, now), 0)
+    called_with(tick_outcome(c, now), 0)
 }
 
+// CALL-CLOSE: it is lent nothing, and has no now.
 pub fn close(c: Connection) -> Called
-    ensures { λ r. ⌜ r ≡ calledOf (closeOutcome c) [] ⌝ }
+    ensures { λ r. ⌜ leaves r [] ≡ made Call.Close c noCount [] [] ⌝ }
 {
-    answered(close_outcome(c), 0)
+    called_with(close_outcome(c), 0)
 }
 
 // CALL-EMPTY, MSG-DATA: what a receive delivers, as a part of the message.

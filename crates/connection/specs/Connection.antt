@@ -8,6 +8,9 @@ use Rattle.clock.specs.declared.Offset.{Offset}
 use Rattle.number.specs.Number.{nextOf}
 use Rattle.message.specs.declared.Header.{Header}
 use Rattle.connection.specs.declared.Settings.{Settings}
+use Rattle.connection.specs.declared.Own.{Own}
+use Rattle.connection.specs.declared.Peer.{Peer}
+use Rattle.connection.specs.declared.Offsets.{Offsets}
 use Rattle.connection.specs.declared.Connection.{Connection}
 
 -- ---- the phases, by their numbers
@@ -43,6 +46,7 @@ opened = 6
 -- ---- ranges
 
 infix 40 _outside_to_
+-- below the least or above the most
 unfoldable pub _outside_to_ : ℕ → ℕ → ℕ → Bool
 x outside least to most = ltb x least || ltb most x
 
@@ -58,153 +62,78 @@ outOfRange s =
 
 -- RECORD-1, of a record that is not closed: its settings or its phase out of range, its error counter at the limit
 unfoldable pub unsound : Connection → Bool
-unsound c = outOfRange (c .settings) || (c .phase) outside 1 to 6 || leb (c .settings .limit) (c .errors)
+unsound c = outOfRange (c .settings) || (c .phase) outside initiatorWaitsFor2 to opened || leb (c .settings .limit) (c .errors)
 
+-- ---- a record of its parts, and the one that is all zero
+
+-- every record is made here, of its parts in their order
+abbrev pub made : ℕ → Settings → Own → Peer → Count → Offsets → ℕ → Count → Connection
+made phase settings own peer since offsets errors clock =
+    record {
+      phase = phase;
+      settings = settings;
+      own = own;
+      peer = peer;
+      «wait_start» = since;
+      offsets = offsets;
+      errors = errors;
+      clock = clock;
+    }
+
+-- WAIT-3: the count where no wait runs, and every count of a record that is all zero
+abbrev pub noCount : Count
+noCount = record { 0 = 0 }
+
+-- RECORD-3: no settings
 abbrev pub noSettings : Settings
 noSettings = record { n = 0; «t_max» = 0; e = 0; «t_start» = 0; «t_off» = 0; limit = 0 }
 
--- ---- records, and what changes together
+-- RECORD-3: nothing of our own, nothing heard, no offsets
+abbrev pub noOwn : Own
+noOwn = record { number = 0; period = 0 }
 
--- RECORD-3: all zero
-abbrev pub released : Connection
-released =
-    record {
-      phase = 0;
-      settings = noSettings;
-      «own_number» = 0;
-      period = 0;
-      «last_number» = 0;
-      «peer_stamp» = record { 0 = 0 };
-      arrival = record { 0 = 0 };
-      «wait_start» = record { 0 = 0 };
-      min = record { 0 = pos 0 };
-      max = record { 0 = pos 0 };
-      errors = 0;
-      clock = record { 0 = 0 };
-    }
+abbrev pub noPeer : Peer
+noPeer = record { number = 0; stamp = noCount; arrival = noCount }
+
+abbrev pub noOffsets : Offsets
+noOffsets = record { min = record { 0 = pos 0 }; max = record { 0 = pos 0 } }
+
+-- RECORD-3: a released slot
+abbrev pub allZero : Connection
+allZero = made closed noSettings noOwn noPeer noCount noOffsets 0 noCount
+
+-- ---- what changes together, a line each
+
+-- what begin is given for the whole of the connection
+abbrev pub configured : Connection → Settings → Own → Connection
+configured c settings own = made (c .phase) settings own (c .peer) (c .«wait_start») (c .offsets) (c .errors) (c .clock)
 
 -- KIND-5: the remembered clock
 abbrev pub clocked : Connection → Count → Connection
-clocked c now =
-    record {
-      phase = c .phase;
-      settings = c .settings;
-      «own_number» = c .«own_number»;
-      period = c .period;
-      «last_number» = c .«last_number»;
-      «peer_stamp» = c .«peer_stamp»;
-      arrival = c .arrival;
-      «wait_start» = c .«wait_start»;
-      min = c .min;
-      max = c .max;
-      errors = c .errors;
-      clock = now;
-    }
+clocked c now = made (c .phase) (c .settings) (c .own) (c .peer) (c .«wait_start») (c .offsets) (c .errors) now
 
 -- ERR-1, ERR-4: the error counter
 abbrev pub counted : Connection → ℕ → Connection
-counted c errors =
-    record {
-      phase = c .phase;
-      settings = c .settings;
-      «own_number» = c .«own_number»;
-      period = c .period;
-      «last_number» = c .«last_number»;
-      «peer_stamp» = c .«peer_stamp»;
-      arrival = c .arrival;
-      «wait_start» = c .«wait_start»;
-      min = c .min;
-      max = c .max;
-      errors = errors;
-      clock = c .clock;
-    }
+counted c errors = made (c .phase) (c .settings) (c .own) (c .peer) (c .«wait_start») (c .offsets) errors (c .clock)
 
 -- ERR-6: the last number, the remembered peer stamp and its arrival
 abbrev pub heard : Connection → Header → Count → Connection
 heard c h now =
-    record {
-      phase = c .phase;
-      settings = c .settings;
-      «own_number» = c .«own_number»;
-      period = c .period;
-      «last_number» = h .number;
-      «peer_stamp» = h .stamp;
-      arrival = now;
-      «wait_start» = c .«wait_start»;
-      min = c .min;
-      max = c .max;
-      errors = c .errors;
-      clock = c .clock;
-    }
+    made (c .phase) (c .settings) (c .own) (record { number = h .number; stamp = h .stamp; arrival = now }) (c .«wait_start») (c .offsets) (c .errors) (c .clock)
 
 -- NUMBER-1: one message more was sent
 abbrev pub sent : Connection → Connection
 sent c =
-    record {
-      phase = c .phase;
-      settings = c .settings;
-      «own_number» = nextOf (c .«own_number»);
-      period = c .period;
-      «last_number» = c .«last_number»;
-      «peer_stamp» = c .«peer_stamp»;
-      arrival = c .arrival;
-      «wait_start» = c .«wait_start»;
-      min = c .min;
-      max = c .max;
-      errors = c .errors;
-      clock = c .clock;
-    }
+    made (c .phase) (c .settings) (record { number = nextOf (c .own .number); period = c .own .period }) (c .peer) (c .«wait_start») (c .offsets) (c .errors) (c .clock)
 
 -- WAIT-1: a phase, and the now of the send that began its wait
 abbrev pub waiting : Connection → ℕ → Count → Connection
-waiting c phase since =
-    record {
-      phase = phase;
-      settings = c .settings;
-      «own_number» = c .«own_number»;
-      period = c .period;
-      «last_number» = c .«last_number»;
-      «peer_stamp» = c .«peer_stamp»;
-      arrival = c .arrival;
-      «wait_start» = since;
-      min = c .min;
-      max = c .max;
-      errors = c .errors;
-      clock = c .clock;
-    }
+waiting c phase since = made phase (c .settings) (c .own) (c .peer) since (c .offsets) (c .errors) (c .clock)
 
 -- OFFSET-2, OFFSET-3: the offsets of set-up
 abbrev pub withOffsets : Connection → Offset → Offset → Connection
-withOffsets c min max =
-    record {
-      phase = c .phase;
-      settings = c .settings;
-      «own_number» = c .«own_number»;
-      period = c .period;
-      «last_number» = c .«last_number»;
-      «peer_stamp» = c .«peer_stamp»;
-      arrival = c .arrival;
-      «wait_start» = c .«wait_start»;
-      min = min;
-      max = max;
-      errors = c .errors;
-      clock = c .clock;
-    }
+withOffsets c min max = made (c .phase) (c .settings) (c .own) (c .peer) (c .«wait_start») (record { min = min; max = max }) (c .errors) (c .clock)
 
 -- the record of begin, before anything was sent: every field anew (RECORD-2), any first number and period (RANGE-FREE), begin's now (KIND-5), no wait (WAIT-3)
-abbrev pub begun : Settings → ℕ → ℕ → ℕ → Count → Connection
-begun settings phase first period now =
-    record {
-      phase = phase;
-      settings = settings;
-      «own_number» = first;
-      period = period;
-      «last_number» = 0;
-      «peer_stamp» = record { 0 = 0 };
-      arrival = record { 0 = 0 };
-      «wait_start» = record { 0 = 0 };
-      min = record { 0 = pos 0 };
-      max = record { 0 = pos 0 };
-      errors = 0;
-      clock = now;
-    }
+abbrev pub begun : Settings → Own → ℕ → Count → Connection
+begun settings own phase now = clocked (waiting (configured allZero settings own) phase noCount) now

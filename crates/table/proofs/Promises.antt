@@ -11,13 +11,13 @@ use lib.Dec.{T, eqb}
 use lib.ListN.{length, set, getD, length-set}
 use lib.Seq.{sets, getD-set-same, getD-set-other, set-getD}
 use Rattle.connection.specs.declared.Connection.{Connection}
-use Rattle.connection.specs.Connection.{released}
-use Rattle.judging.specs.declared.Outcome.{Outcome}
-use Rattle.judging.specs.declared.Reply.{Reply}
+use Rattle.connection.specs.Connection.{allZero}
+use Rattle.what_follows.specs.declared.Outcome.{Outcome}
+use Rattle.what_follows.specs.declared.Reply.{Reply}
 use Rattle.calls.specs.declared.Answer.{Answer}
 use Rattle.calls.specs.Calls.{answerOf, outAfter, replyBytes}
-use Rattle.calls.specs.Promises.{_among_, callersFault, Unchanged, Valid, Stays}
-use Rattle.calls.proofs.Promises.{
+use Rattle.promises.specs.Promises.{_among_, callersFault, Unchanged, Valid, Stays}
+use Rattle.promises.proofs.Promises.{
   begin-number,
   receive-number,
   send-number,
@@ -29,7 +29,7 @@ use Rattle.calls.proofs.Promises.{
   tick-refusal-changes-nothing,
   close-refusal-changes-nothing,
 }
-use Rattle.calls.proofs.Valid.{begin-stays, receive-stays, send-stays, tick-stays, close-stays}
+use Rattle.promises.proofs.Valid.{begin-stays, receive-stays, send-stays, tick-stays, close-stays}
 use Rattle.table.specs.Table.{badSlot, recordAt, refusal, answerAt, tableAfter, outAt}
 use Rattle.table.specs.Promises.{
   Call,
@@ -148,7 +148,7 @@ module _ (table : List Connection) (slot : ℕ) (call : Call) where
   next-there : recordAt (tableThen table slot call) slot ≡ (when badSlot (length table) slot answer recordAt table slot else comes .next)
   next-there = either (badSlot (length table) slot)
       (λ e. rw e (ap (λ (t : List Connection). recordAt t slot) (refused-table e)))
-      (λ e. rw e (ap (λ (t : List Connection). recordAt t slot) (taken-table e) ∙ getD-set-same table slot (comes .next) released (inside (length table) slot e)))
+      (λ e. rw e (ap (λ (t : List Connection). recordAt t slot) (taken-table e) ∙ getD-set-same table slot (comes .next) allZero (inside (length table) slot e)))
 
   -- ---- the numbers, and demand 1
 
@@ -168,7 +168,7 @@ module _ (table : List Connection) (slot : ℕ) (call : Call) where
   taken-untouched : badSlot (length table) slot ≡ false → Unchanged (recordAt table slot) comes → Untouched table slot call
   taken-untouched e u =
       record {
-        same-table = taken-table e ∙ ap (λ (c : Connection). set table slot c) (u .same-record) ∙ set-getD table slot released;
+        same-table = taken-table e ∙ ap (λ (c : Connection). set table slot c) (u .same-record) ∙ set-getD table slot allZero;
         same-out = taken-out e ∙ ap (λ (r : Reply). sets (outBefore call) 0 (replyBytes r (lentTo call))) (u .nothing-written);
         nothing-written = ap (λ (a : Answer). a .written) (taken-answer e) ∙ ap (λ (r : Reply). length (replyBytes r (lentTo call))) (u .nothing-written);
         nothing-delivered = ap (λ (a : Answer). a .delivered) (taken-answer e) ∙ u .nothing-delivered;
@@ -183,8 +183,8 @@ module _ (table : List Connection) (slot : ℕ) (call : Call) where
 
   set-valid : (y : Connection) → slot < length table → Valid y → AllValid table → AllValid (set table slot y)
   set-valid y l v all k m = either (eqb k slot)
-      (λ e. subst Valid (sym (ap (λ (j : ℕ). getD (set table slot y) j released) (eqb-true k slot e) ∙ getD-set-same table slot y released l)) v)
-      (λ e. subst Valid (sym (getD-set-other table slot k y released (eqb-false k slot e))) (all k (subst (λ (n : ℕ). k < n) (length-set table slot y) m)))
+      (λ e. subst Valid (sym (ap (λ (j : ℕ). getD (set table slot y) j allZero) (eqb-true k slot e) ∙ getD-set-same table slot y allZero l)) v)
+      (λ e. subst Valid (sym (getD-set-other table slot k y allZero (eqb-false k slot e))) (all k (subst (λ (n : ℕ). k < n) (length-set table slot y) m)))
 
   stays-valid : AllValid table → AllValid (tableThen table slot call)
   stays-valid all = either (badSlot (length table) slot)
@@ -192,7 +192,7 @@ module _ (table : List Connection) (slot : ℕ) (call : Call) where
       (λ e. subst AllValid (sym (taken-table e)) (set-valid (comes .next) (inside (length table) slot e)
       (next-valid comes (outcome-stays call (recordAt table slot) (all slot (inside (length table) slot e)))) all))
 
-  released-is-zero : Valid (recordAt table slot) → answerTo table slot call .released ≡ true → recordAt (tableThen table slot call) slot ≡ released
+  released-is-zero : Valid (recordAt table slot) → answerTo table slot call .released ≡ true → recordAt (tableThen table slot call) slot ≡ allZero
   released-is-zero v r = either (badSlot (length table) slot)
       (λ e. absurd (subst T (sym r ∙ ap (λ (a : Answer). a .released) (refused-answer e)) tt))
       (λ e. next-there ∙ rw e (outcome-stays call (recordAt table slot) v .zero (sym (ap (λ (a : Answer). a .released) (taken-answer e)) ∙ r)))
@@ -217,7 +217,7 @@ others-leave-it slot table OnOthers.none = record { same-size = refl; same-recor
 others-leave-it slot table (OnOthers.after {before} x other call n) =
     let left : LeftAsItWas slot table before = others-leave-it slot table x in
     let kept : ChangesNoOther before other (tableThen before other call) = changes-no-other before other call in
-    record { same-size = kept .same-size ∙ left .same-size; same-record = kept .same-others slot released (λ e. n (sym e)) ∙ left .same-record }
+    record { same-size = kept .same-size ∙ left .same-size; same-record = kept .same-others slot allZero (λ e. n (sym e)) ∙ left .same-record }
 
 -- any table, slot and call
 pub promises : (table : List Connection) (slot : ℕ) (call : Call) → Promises table slot call

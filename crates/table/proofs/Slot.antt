@@ -33,7 +33,7 @@ use denote.Triple.Clauses.{ensured, lasts}
 use denote.Triple.Spec.{tripleOf}
 use denote.Triple.Statement.{Contract, Triple}
 use Rattle.connection.specs.declared.Connection.{Connection}
-use Rattle.judging.specs.declared.Outcome.{Outcome}
+use Rattle.what_follows.specs.declared.Outcome.{Outcome}
 use Rattle.calls.specs.declared.Called.{Called}
 use Rattle.calls.specs.Calls.{calledOf, outAfter}
 use Rattle.table.specs.Table.{badSlot, refusal, answerAt, tableAfter, outAt}

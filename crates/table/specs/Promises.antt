@@ -8,11 +8,11 @@ use lib.ListN.{length, getD}
 use Rattle.clock.specs.declared.Count.{Count}
 use Rattle.connection.specs.declared.Settings.{Settings}
 use Rattle.connection.specs.declared.Connection.{Connection}
-use Rattle.connection.specs.Connection.{released}
-use Rattle.judging.specs.declared.Outcome.{Outcome}
+use Rattle.connection.specs.Connection.{allZero}
+use Rattle.what_follows.specs.declared.Outcome.{Outcome}
 use Rattle.calls.specs.declared.Answer.{Answer}
 use Rattle.calls.specs.Calls.{beginOutcome, receiveOutcome, sendOutcome, tickOutcome, closeOutcome}
-use Rattle.calls.specs.Promises.{_among_, beginNumbers, receiveNumbers, sendNumbers, tickNumbers, closeNumbers, callersFault, Valid}
+use Rattle.promises.specs.Promises.{_among_, beginNumbers, receiveNumbers, sendNumbers, tickNumbers, closeNumbers, callersFault, Valid}
 use Rattle.table.specs.Table.{badSlot, recordAt, answerAt, tableAfter, outAt}
 
 -- one of the five calls, with what the caller passes beside the table and the slot
@@ -116,4 +116,4 @@ pub record Promises (table : List Connection) (slot : ℕ) (call : Call) : Type 
   pub refusal-changes-nothing : callersFault (answerTo table slot call .number) ≡ true → Untouched table slot call
   pub stays-valid : AllValid table → AllValid (tableThen table slot call)
   -- RECORD-3
-  pub released-is-zero : Valid (recordAt table slot) → answerTo table slot call .released ≡ true → recordAt (tableThen table slot call) slot ≡ released
+  pub released-is-zero : Valid (recordAt table slot) → answerTo table slot call .released ≡ true → recordAt (tableThen table slot call) slot ≡ allZero

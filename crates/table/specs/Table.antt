@@ -8,8 +8,8 @@ use Rattle.rules.specs.Rows.{when_answer_else_}
 use Rattle.clock.specs.declared.Count.{Count}
 use Rattle.connection.specs.declared.Settings.{Settings}
 use Rattle.connection.specs.declared.Connection.{Connection}
-use Rattle.connection.specs.Connection.{released}
-use Rattle.judging.specs.declared.Outcome.{Outcome}
+use Rattle.connection.specs.Connection.{allZero}
+use Rattle.what_follows.specs.declared.Outcome.{Outcome}
 use Rattle.calls.specs.declared.Answer.{Answer}
 use Rattle.calls.specs.Calls.{beginOutcome, receiveOutcome, sendOutcome, tickOutcome, closeOutcome, answerOf, outAfter}
 
@@ -19,7 +19,7 @@ badSlot size slot = eqb size 0 || ltb 64 size || leb size slot
 
 -- that slot's record
 abbrev pub recordAt : List Connection → ℕ → Connection
-recordAt table slot = getD table slot released
+recordAt table slot = getD table slot allZero
 
 -- CALL-KEPT: the answer to a bad slot
 abbrev pub refusal : Answer

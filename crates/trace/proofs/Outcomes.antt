@@ -14,8 +14,8 @@ use Rattle.field.specs.Row.{fieldsOf, widthOf}
 use Rattle.connection.specs.declared.Connection.{Connection}
 use Rattle.connection.specs.Connection.{closed}
 use Rattle.clock.specs.declared.Count.{Count}
-use Rattle.judging.specs.declared.Reply.{Reply}
-use Rattle.judging.specs.declared.Outcome.{Outcome}
+use Rattle.what_follows.specs.declared.Reply.{Reply}
+use Rattle.what_follows.specs.declared.Outcome.{Outcome}
 use Rattle.calls.specs.Calls.{bad, beginRefusal, refused, beginOutcome, receiveOutcome, sendOutcome, tickOutcome, closeOutcome, replyBytes, outAfter}
 use Rattle.calls.proofs.Replies.{tick-silent, close-silent}
 use Rattle.trace.specs.Call.{room, beginWidths, beginNamed, noBegin, beginOf, beginWith, OthersGive104, outcomeOf, lentOf}

@@ -11,7 +11,7 @@ use Rattle.clock.specs.declared.Count.{Count}
 use Rattle.field.specs.Row.{fieldsOf, widthOf}
 use Rattle.connection.specs.declared.Connection.{Connection}
 use Rattle.connection.specs.Connection.{closed, noSettings}
-use Rattle.judging.specs.declared.Outcome.{Outcome}
+use Rattle.what_follows.specs.declared.Outcome.{Outcome}
 use Rattle.calls.specs.declared.Answer.{Answer}
 use Rattle.calls.specs.Calls.{bad, refused, beginOutcome, receiveOutcome, sendOutcome, tickOutcome, closeOutcome}
 use Rattle.table.specs.Table.{recordAt, answerAt, tableAfter, outAt}

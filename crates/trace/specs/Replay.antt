@@ -6,7 +6,7 @@ use mathlib.Core.Bool.{true, false}
 use mathlib.Core.List.{List, [], _++_}
 use lib.ListN.{length, drop, replicate}
 use Rattle.rules.specs.Rows.{when_answer_else_}
-use Rattle.connection.specs.Connection.{released}
+use Rattle.connection.specs.Connection.{allZero}
 use Rattle.trace.specs.Record.{recordOf, sizeOf, bytesIn}
 use Rattle.trace.specs.Call.{answerTo, tableTo, outTo}
 use Rattle.trace.specs.Printed.{heading, lineOf, badLine, endOf}
@@ -17,7 +17,7 @@ use Rattle.trace.specs.declared.Progress.{Progress}
 
 -- TRACE-5: 64 closed slots
 abbrev pub startOf : Progress
-startOf = record { table = replicate 64 released; count = 0; stopped = false }
+startOf = record { table = replicate 64 allZero; count = 0; stopped = false }
 
 -- A turn: what it prints, how many bytes of the trace it uses up, how far the replay is after it, and what it leaves in the out buffer that is lent to the
 -- calls, by what stood there.

@@ -18,16 +18,16 @@ use Rattle.message.specs.declared.Tail.{Tail}
 use Rattle.message.specs.declared.Parsed.{Parsed}
 use Rattle.connection.specs.declared.Connection.{Connection}
 use Rattle.connection.specs.Connection.{opened}
-use Rattle.faults.specs.declared.Expectation.{Expectation}
-use Rattle.faults.specs.declared.Expectation.the-variants.{Expected, Unexpected, Released}
-use Rattle.judging.specs.declared.Outcome.{Outcome}
-use Rattle.faults.specs.Faults.{expectationOf, dropped, tooFar, wrongEcho, checkFailed, messageAge, ageNumber, gap, faultOf}
-use Rattle.judging.specs.Judging.{startTaken, answ1Taken, answ2Taken, estTaken, endTaken, dataTaken, takenOf, raises, openFollowsOf, followsOf, metOf, stepOf}
+use Rattle.peer_faults.specs.declared.Expectation.{Expectation}
+use Rattle.peer_faults.specs.declared.Expectation.the-variants.{Expected, Unexpected, Released}
+use Rattle.what_follows.specs.declared.Outcome.{Outcome}
+use Rattle.peer_faults.specs.Faults.{expectationOf, notAhead, beyondN, wrongEcho, checkFailed, messageAge, ageNumber, gap, faultOf}
+use Rattle.what_follows.specs.Follows.{startTaken, answ1Taken, answ2Taken, estTaken, endTaken, dataTaken, messageTaken, raised, openFollowsOf, followsOf, metOf, stepOf}
 use Rattle.calls.specs.Calls.{receiveRefusal, expired, receiveOutcome}
-use Rattle.calls.specs.Promises.{deliversTo}
+use Rattle.promises.specs.Promises.{deliversTo}
 use Rattle.calls.proofs.Replies.{both}
-use Rattle.calls.proofs.Promises.{receive-refusal-by}
-use Rattle.calls.proofs.Opening.{Expects, expected-is}
+use Rattle.promises.proofs.Promises.{receive-refusal-by}
+use Rattle.promises.proofs.Opening.{Expects, expected-is}
 
 -- what an answer says of the verdict
 pub record ByAge (c : Connection) (v : Verdict) (k : ℕ) : Type 0 where
@@ -84,8 +84,8 @@ module _ (c : Connection) (now : Count) (h : Header) (t : Tail) (o : c .phase �
 
   -- ---- the answer is the fault's number
 
-  taken-answer : takenOf c now h t .answer ≡ 0
-  unfolding takenOf startTaken answ1Taken answ2Taken estTaken endTaken dataTaken
+  taken-answer : messageTaken c now h t .answer ≡ 0
+  unfolding messageTaken startTaken answ1Taken answ2Taken estTaken endTaken dataTaken
   taken-answer =
       both Zero (eqb (h .kind) 1) _ _ (λ _. refl) (λ _.
       both Zero (eqb (h .kind) 2) _ _ (λ _. refl) (λ _.
@@ -96,8 +96,8 @@ module _ (c : Connection) (now : Count) (h : Header) (t : Tail) (o : c .phase �
       Zero : Outcome → Type 0
       Zero x = x .answer ≡ 0
 
-  raises-answer : (d : Connection) (k n : ℕ) → raises d k n .answer ≡ k
-  unfolding raises
+  raises-answer : (d : Connection) (k n : ℕ) → raised d k n .answer ≡ k
+  unfolding raised
   raises-answer d k n = both (λ (x : Outcome). x .answer ≡ k) (leb (d .settings .limit) (d .errors + 1)) _ _ (λ _. refl) (λ _. refl)
 
   open-answer : (k : ℕ) → openFollowsOf c now h t k .answer ≡ k
@@ -130,13 +130,13 @@ module _ (c : Connection) (now : Count) (h : Header) (t : Tail) (o : c .phase �
   fault-by-age : h .kind ≡ 6 → ByAge c verdict (faultOf c now h t)
   unfolding faultOf
   fault-by-age k =
-      both (ByAge c verdict) (dropped (h .kind) (distanceOf (h .number) (c .«last_number»))) _ _ (λ _. other c verdict 202 refl refl refl refl) (λ _.
-      both (ByAge c verdict) (tooFar (h .kind) (distanceOf (h .number) (c .«last_number»)) (c .settings .n)) _ _ (λ _. other c verdict 203 refl refl refl refl) (λ _.
+      both (ByAge c verdict) (notAhead (h .kind) (distanceOf (h .number) (c .peer .number))) _ _ (λ _. other c verdict 202 refl refl refl refl) (λ _.
+      both (ByAge c verdict) (beyondN (h .kind) (distanceOf (h .number) (c .peer .number)) (c .settings .n)) _ _ (λ _. other c verdict 203 refl refl refl refl) (λ _.
       both (ByAge c verdict) (wrongEcho (h .kind) (h .«last_peer_stamp» .0) (c .«wait_start» .0)) _ _ (λ _. other c verdict 208 refl refl refl refl) (λ _.
       both (ByAge c verdict) (checkFailed c (h .kind) t) _ _ (λ _. other c verdict 209 refl refl refl refl) (λ _.
       both (ByAge c verdict) (eqb (ageNumber c now h) 206) _ _ (λ e. future-206 c verdict (is-future verdict (sym (age-number k) ∙ eqb-true _ 206 e))) (λ f.
       both (ByAge c verdict) (eqb (ageNumber c now h) 205) _ _ (λ e. late-205 c verdict (is-late verdict (sym (age-number k) ∙ eqb-true _ 205 e))) (λ l.
-      both (ByAge c verdict) (gap (h .kind) (distanceOf (h .number) (c .«last_number»))) _ _
+      both (ByAge c verdict) (gap (h .kind) (distanceOf (h .number) (c .peer .number))) _ _
       (λ _. delivered c verdict 204 refl refl (fresh f l)) (λ _. delivered c verdict 0 refl refl (fresh f l))))))))
     where
       fresh : eqb (ageNumber c now h) 206 ≡ false → eqb (ageNumber c now h) 205 ≡ false → verdict ≡ Fresh

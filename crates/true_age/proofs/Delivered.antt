@@ -16,14 +16,14 @@ use Rattle.message.specs.declared.Parsed.{Parsed}
 use Rattle.message.proofs.RoundTrip.{accepted-data}
 use Rattle.connection.specs.declared.Connection.{Connection}
 use Rattle.connection.specs.Connection.{opened, clocked, heard}
-use Rattle.judging.specs.declared.Outcome.{Outcome}
-use Rattle.judging.specs.Judging.{startTaken, answ1Taken, answ2Taken, estTaken, endTaken, dataTaken, takenOf, refuses, raises}
+use Rattle.what_follows.specs.declared.Outcome.{Outcome}
+use Rattle.what_follows.specs.Follows.{startTaken, answ1Taken, answ2Taken, estTaken, endTaken, dataTaken, messageTaken, refusing, raised}
 use Rattle.calls.specs.Calls.{receiveRefusal, receiveOutcome}
-use Rattle.calls.specs.Promises.{deliversTo}
+use Rattle.promises.specs.Promises.{deliversTo}
 use Rattle.calls.proofs.Replies.{both}
-use Rattle.calls.proofs.Promises.{Fault, receive-by, receive-refusal-by}
-use Rattle.calls.proofs.Opening.{Expects, expected-is}
-use Rattle.calls.proofs.Delivery.{delivers-bytes-from-15}
+use Rattle.promises.proofs.Promises.{Fault, receive-by, receive-refusal-by}
+use Rattle.promises.proofs.Opening.{Expects, expected-is}
+use Rattle.promises.proofs.Delivery.{delivers-bytes-from-15}
 use Rattle.true_age.specs.Claim.{HandsUp}
 use Rattle.true_age.proofs.Answers.{is-data}
 
@@ -54,12 +54,12 @@ module _ (c : Connection) (now : Count) (message : List ℕ) where
   unfolding deliversTo
   open-delivers k e o = rw (e, o)
 
-  raised : (d : Connection) (k n : ℕ) → n ≡ (when deliversTo c k answer length (dataOf message) else 0) → Counts (raises d k n)
-  unfolding raises
+  raised : (d : Connection) (k n : ℕ) → n ≡ (when deliversTo c k answer length (dataOf message) else 0) → Counts (raised d k n)
+  unfolding raised
   raised d k n e = both Counts (leb (d .settings .limit) (d .errors + 1)) _ _ (λ _. e) (λ _. e)
 
-  taken : (h : Header) (t : Tail) → parsedOf message ≡ Parsed.Whole h t → Expects (c .phase) (h .kind) → Counts (takenOf c now h t)
-  unfolding takenOf startTaken answ1Taken answ2Taken estTaken endTaken dataTaken
+  taken : (h : Header) (t : Tail) → parsedOf message ≡ Parsed.Whole h t → Expects (c .phase) (h .kind) → Counts (messageTaken c now h t)
+  unfolding messageTaken startTaken answ1Taken answ2Taken estTaken endTaken dataTaken
   taken h t w (Expects.x1 p k) = rw k (in-set-up 0 (rw p refl))
   taken h t w (Expects.x2 p k) = rw k (in-set-up 0 (rw p refl))
   taken h t w (Expects.x3 p k) = rw k (in-set-up 0 (rw p refl))
@@ -77,7 +77,7 @@ module _ (c : Connection) (now : Count) (message : List ℕ) where
   fault-not-0 Fault.f204 = refl
 
   counted : (room : ℕ) → Counts (receiveOutcome c now message room)
-  unfolding refuses
+  unfolding refusing
   counted room =
       receive-by Counts c now message room
       (λ e. none-but (receiveRefusal c now room) (not-true (eqb (receiveRefusal c now room) 0) e) (receive-refusal-by (λ k. eqb k 204 ≡ false) refl refl c now room refl refl refl))

@@ -10,8 +10,8 @@ use Rattle.clock.specs.declared.Offset.{Offset}
 use Rattle.message.specs.declared.Header.{Header}
 use Rattle.connection.specs.declared.Settings.{Settings}
 use Rattle.connection.specs.declared.Connection.{Connection}
-use Rattle.faults.specs.Faults.{messageAge}
-use Rattle.judging.specs.Judging.{offsetBetween}
+use Rattle.peer_faults.specs.Faults.{messageAge}
+use Rattle.what_follows.specs.Follows.{offsetBetween}
 use Rattle.calls.specs.Calls.{receiveOutcome}
 use Rattle.true_age.specs.Clocks.{World, InBand, countOf}
 use Rattle.true_age.specs.History.{Ours, Written, Judged}

@@ -28,8 +28,8 @@ use Rattle.connection.specs.Connection.{
   heard,
   sent,
 }
-use Rattle.judging.specs.declared.Outcome.{Outcome}
-use Rattle.judging.specs.Judging.{offsetBetween, replyHeader, startTaken, answ1Taken, answ2Taken, estTaken, endTaken, dataTaken, takenOf, refuses, raises}
+use Rattle.what_follows.specs.declared.Outcome.{Outcome}
+use Rattle.what_follows.specs.Follows.{offsetBetween, replyHeader, startTaken, answ1Taken, answ2Taken, estTaken, endTaken, dataTaken, messageTaken, refusing, raised}
 use Rattle.calls.specs.Calls.{
   closeRefusal,
   tickRefusal,
@@ -42,8 +42,8 @@ use Rattle.calls.specs.Calls.{
   beginOutcome,
 }
 use Rattle.calls.proofs.Replies.{both, row-off, then-off, none-refused}
-use Rattle.calls.proofs.Promises.{receive-by, tick-by}
-use Rattle.calls.proofs.Opening.{Expects, expected-is}
+use Rattle.promises.proofs.Promises.{receive-by, tick-by}
+use Rattle.promises.proofs.Opening.{Expects, expected-is}
 use Rattle.true_age.specs.Clocks.{World, countOf}
 use Rattle.true_age.specs.History.{Ours, withWritten, Written, Reports, Judged, JudgedBytes, History}
 use Rattle.true_age.specs.Claim.{ownType, OwnSetUp}
@@ -222,8 +222,8 @@ module _ (W : World) (began : W .Moment) (role : ℕ) (settings : Settings) wher
     After o = (eqb (c .phase) opened ≡ false → o .answer ≡ 0 → JudgedBytes W began log u (parsedOf message)) → Holds (withWritten W u (o .reply) log) u (o .next)
 
     raised : (d : Connection) (k n : ℕ) → d .phase ≡ c .phase → d .settings ≡ c .settings → d .«wait_start» ≡ c .«wait_start» → d .min ≡ c .min
-        → After (raises d k n)
-    unfolding raises After
+        → After (raised d k n)
+    unfolding raised After
     raised d k n p s w m = both After (leb (d .settings .limit) (d .errors + 1)) _ _ (λ _ _. over refl) (λ _ _. same u next _ p s w m g)
 
     module _ (h : Header) (tail : Tail) (w : parsedOf message ≡ Parsed.Whole h tail) where
@@ -272,8 +272,8 @@ module _ (W : World) (began : W .Moment) (role : ℕ) (settings : Settings) wher
       unfolding dataTaken After
       taken-6 f = same u next _ refl refl refl refl g
 
-      taken-all : Expects (c .phase) (h .kind) → After (takenOf c now h tail)
-      unfolding takenOf startTaken answ1Taken answ2Taken estTaken endTaken dataTaken
+      taken-all : Expects (c .phase) (h .kind) → After (messageTaken c now h tail)
+      unfolding messageTaken startTaken answ1Taken answ2Taken estTaken endTaken dataTaken
       taken-all (Expects.x1 p k) = rw k (taken-1 p)
       taken-all (Expects.x2 p k) = rw k (taken-2 p k)
       taken-all (Expects.x3 p k) = rw k (taken-3 p k)
@@ -282,7 +282,7 @@ module _ (W : World) (began : W .Moment) (role : ℕ) (settings : Settings) wher
       taken-all (Expects.x6 p k) = rw k taken-6
 
     receive-holds : (room : ℕ) → After (receiveOutcome c now message room)
-    unfolding refuses After
+    unfolding refusing After
     receive-holds room =
         receive-by After c now message room (λ _ _. same u next c refl refl refl refl g) (λ _ _ _. over refl)
         (λ _. record {

@@ -17,10 +17,10 @@ use Rattle.message.specs.declared.Parsed.{Parsed}
 use Rattle.connection.specs.declared.Settings.{Settings}
 use Rattle.connection.specs.declared.Connection.{Connection}
 use Rattle.connection.specs.Connection.{opened}
-use Rattle.faults.specs.Faults.{messageAge}
-use Rattle.judging.specs.Judging.{offsetBetween}
+use Rattle.peer_faults.specs.Faults.{messageAge}
+use Rattle.what_follows.specs.Follows.{offsetBetween}
 use Rattle.calls.specs.Calls.{receiveOutcome, deliveredOf}
-use Rattle.calls.specs.Promises.{deliversTo}
+use Rattle.promises.specs.Promises.{deliversTo}
 use Rattle.true_age.specs.Clocks.{World, InBand, countOf}
 use Rattle.true_age.specs.History.{Ours, Written, Judged, History}
 

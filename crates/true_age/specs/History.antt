@@ -12,8 +12,8 @@ use Rattle.message.specs.declared.Parsed.{Parsed}
 use Rattle.connection.specs.declared.Settings.{Settings}
 use Rattle.connection.specs.declared.Connection.{Connection}
 use Rattle.connection.specs.Connection.{opened}
-use Rattle.judging.specs.declared.Reply.{Reply}
-use Rattle.judging.specs.declared.Reply.the-variants.{Nothing, Send}
+use Rattle.what_follows.specs.declared.Reply.{Reply}
+use Rattle.what_follows.specs.declared.Reply.the-variants.{Nothing, Send}
 use Rattle.calls.specs.Calls.{beginOutcome, receiveOutcome, sendOutcome, tickOutcome, closeOutcome}
 use Rattle.true_age.specs.Clocks.{World, countOf}
 

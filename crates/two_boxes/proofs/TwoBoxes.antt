@@ -33,12 +33,12 @@ use Rattle.message.specs.declared.Parsed.{Parsed}
 use Rattle.connection.specs.declared.Connection.{Connection}
 use Rattle.connection.specs.Connection.{closed, initiatorWaitsFor2, initiatorWaitsFor4, responderWaitsFor1, responderWaitsFor3, responderWaitsFor5, opened, _outside_to_, outOfRange, unsound, clocked, heard, sent, waiting, withOffsets, begun}
 use Rattle.connection.proofs.Ranges.{in-range}
-use Rattle.faults.specs.declared.Expectation.the-variants.{Expected}
-use Rattle.judging.specs.declared.Reply.{Reply}
-use Rattle.judging.specs.declared.Reply.the-variants.{Send}
-use Rattle.judging.specs.declared.Outcome.{Outcome}
-use Rattle.faults.specs.Faults.{expectationOf, numberJudged, dropped, tooFar, gap, wrongEcho, accepts, checkFailed, ageNumber, faultOf}
-use Rattle.judging.specs.Judging.{keeps, releases, sends, minOf, maxOf, replyHeader, answered, noWait, startTaken, answ1Taken, answ2Taken, estTaken, endTaken, takenOf, refuses, followsOf, stepOf}
+use Rattle.peer_faults.specs.declared.Expectation.the-variants.{Expected}
+use Rattle.what_follows.specs.declared.Reply.{Reply}
+use Rattle.what_follows.specs.declared.Reply.the-variants.{Send}
+use Rattle.what_follows.specs.declared.Outcome.{Outcome}
+use Rattle.peer_faults.specs.Faults.{expectationOf, numberJudged, notAhead, beyondN, gap, wrongEcho, accepts, checkFailed, ageNumber, faultOf}
+use Rattle.what_follows.specs.Follows.{kept, released, sending, minOf, maxOf, replyHeader, answered, noWait, startTaken, answ1Taken, answ2Taken, estTaken, endTaken, messageTaken, refusing, followsOf, stepOf}
 use Rattle.calls.specs.Calls.{
   bad,
   closeRefusal,
@@ -122,10 +122,10 @@ module _ (c : Connection) (now : Count) (message : List ℕ) (room : ℕ) (h : H
       (rw (lt-leb (c .settings .«t_start») (waitOf (now .0) (c .«wait_start» .0)) w) (and-false (timed (c .phase))))
 
 -- of messages 3 to 5: where d is 1 and the echo is right, the clock check decides
-check-decides : (c : Connection) (now : Count) (h : Header) (t : Tail) → 3 ≤ h .kind → h .kind ≤ 5 → distanceOf (h .number) (c .«last_number») ≡ 1
+check-decides : (c : Connection) (now : Count) (h : Header) (t : Tail) → 3 ≤ h .kind → h .kind ≤ 5 → distanceOf (h .number) (c .peer .number) ≡ 1
     → outOfRange (c .settings) ≡ false → h .«last_peer_stamp» .0 ≡ c .«wait_start» .0 → (k : Bool) → checkFailed c (h .kind) t ≡ k
     → faultOf c now h t ≡ (when k answer 209 else 0)
-unfolding faultOf dropped tooFar gap numberJudged wrongEcho ageNumber
+unfolding faultOf notAhead beyondN gap numberJudged wrongEcho ageNumber
 check-decides c now h t l u d s e k f =
     let six : eqb (h .kind) 6 ≡ false = ne-eqb (h .kind) 6 (λ q. omega arith) in
     simp (
@@ -196,11 +196,11 @@ module _ (i1 i2 r1 r3 : ℕ) where
 -- ---- the first message of a peer has no fault but a wrong echo
 
 no-fault-1 : (c : Connection) (now : Count) (h : Header) (t : Tail) → h .kind ≡ 1 → faultOf c now h t ≡ 0
-unfolding faultOf dropped tooFar gap numberJudged wrongEcho checkFailed ageNumber
+unfolding faultOf notAhead beyondN gap numberJudged wrongEcho checkFailed ageNumber
 no-fault-1 c now h t k = rw k
 
 no-fault-2 : (c : Connection) (now : Count) (h : Header) (t : Tail) → h .kind ≡ 2 → h .«last_peer_stamp» .0 ≡ c .«wait_start» .0 → faultOf c now h t ≡ 0
-unfolding faultOf dropped tooFar gap numberJudged wrongEcho checkFailed ageNumber
+unfolding faultOf notAhead beyondN gap numberJudged wrongEcho checkFailed ageNumber
 no-fault-2 c now h t k e = rw (k, eq-eqb (h .«last_peer_stamp» .0) (c .«wait_start» .0) e)
 
 -- ---- what the table of messages allows
@@ -270,11 +270,11 @@ module _ (b : Boxes) where
 module _ (b : Boxes) (j : Joined b) where
   -- ---- the begins
 
-  begins-is : begins b ≡ sends (start b) (periodTail (b .initiator .period)) (sentStart b)
+  begins-is : begins b ≡ sending (start b) (periodTail (b .initiator .period)) (sentStart b)
   unfolding begins beginOutcome beginRefusal bad
   begins-is = rw (j .initiator .slot-closed, j .initiator .in-range, le-ltb (length (b .out .start)) 19 (j .room-for-start))
 
-  waits-is : waits b ≡ keeps 0 0 (waitsForStart b)
+  waits-is : waits b ≡ kept 0 0 (waitsForStart b)
   unfolding waits beginOutcome beginRefusal bad
   waits-is = rw (j .responder .slot-closed, j .responder .in-range)
 
@@ -287,8 +287,8 @@ module _ (b : Boxes) (j : Joined b) where
       (record { kind = lit< tt; number = j .initiator .first; stamp = j .i1; «last_peer_stamp» = lit< tt; arrival = lit< tt; period = j .initiator .period; min = lit< tt; max = lit< tt; check = lit< tt })
       (start-allowed (b .initiator .first) (b .i1) (b .initiator .period))
 
-  gets-start-is : getsStart b ≡ sends (answ1 b) (periodTail (b .responder .period)) (sentAnsw1 b)
-  unfolding getsStart expectationOf followsOf takenOf startTaken expired timed _outside_to_
+  gets-start-is : getsStart b ≡ sending (answ1 b) (periodTail (b .responder .period)) (sentAnsw1 b)
+  unfolding getsStart expectationOf followsOf messageTaken startTaken expired timed _outside_to_
   gets-start-is =
       ap (λ (o : Outcome). receiveOutcome (o .next) (b .r1) (sentBy (begins b) (b .out .start)) (length (b .out .answ1))) waits-is
       ∙ judged (waitsForStart b) (b .r1) (sentBy (begins b) (b .out .start)) (length (b .out .answ1)) (start b) (periodTail (b .initiator .period))
@@ -305,8 +305,8 @@ module _ (b : Boxes) (j : Joined b) where
       (record { kind = lit< tt; number = j .responder .first; stamp = j .r1; «last_peer_stamp» = j .i1; arrival = j .r1; period = j .responder .period; min = lit< tt; max = lit< tt; check = lit< tt })
       (answ1-allowed (waitsForStart b) (b .r1) (start b) (b .responder .period))
 
-  gets-answ1-is : getsAnsw1 b ≡ sends (answ2 b) emptyTail (sentAnsw2 b)
-  unfolding getsAnsw1 expectationOf followsOf takenOf answ1Taken _outside_to_
+  gets-answ1-is : getsAnsw1 b ≡ sending (answ2 b) emptyTail (sentAnsw2 b)
+  unfolding getsAnsw1 expectationOf followsOf messageTaken answ1Taken _outside_to_
   gets-answ1-is =
       ap (λ (o : Outcome). receiveOutcome (o .next) (b .i2) (sentBy (getsStart b) (b .out .answ1)) (length (b .out .answ2))) begins-is
       ∙ judged-in-time (sentStart b) (b .i2) (sentBy (getsStart b) (b .out .answ1)) (length (b .out .answ2)) (answ1 b) (periodTail (b .responder .period))
@@ -323,8 +323,8 @@ module _ (b : Boxes) (j : Joined b) where
       (record { kind = lit< tt; number = next-fits (b .initiator .first); stamp = j .i2; «last_peer_stamp» = j .r1; arrival = j .i2; period = lit< tt; min = lit< tt; max = lit< tt; check = lit< tt })
       (answ2-allowed (sentStart b) (b .i2) (answ1 b))
 
-  gets-answ2-is : getsAnsw2 b ≡ sends (est b) (estTail b) (sentEst b)
-  unfolding getsAnsw2 expectationOf followsOf takenOf answ2Taken checkFailed _outside_to_
+  gets-answ2-is : getsAnsw2 b ≡ sending (est b) (estTail b) (sentEst b)
+  unfolding getsAnsw2 expectationOf followsOf messageTaken answ2Taken checkFailed _outside_to_
   gets-answ2-is =
       ap (λ (o : Outcome). receiveOutcome (o .next) (b .r3) (sentBy (getsAnsw1 b) (b .out .answ2)) (length (b .out .est))) gets-start-is
       ∙ judged-in-time (sentAnsw1 b) (b .r3) (sentBy (getsAnsw1 b) (b .out .answ2)) (length (b .out .est)) (answ2 b) emptyTail
@@ -404,12 +404,12 @@ module _ (b : Boxes) (j : Joined b) where
   -- ---- offsets within T_off
 
   module _ (w : sizeOfMinPlusPeersMax b ≤ b .initiator .settings .«t_off») where
-    gets-est-is : getsEst b ≡ sends (end b) (checkTail 1) (initiatorOpen b)
-    unfolding followsOf takenOf estTaken
+    gets-est-is : getsEst b ≡ sending (end b) (checkTail 1) (initiatorOpen b)
+    unfolding followsOf messageTaken estTaken
     gets-est-is = est-judged false (ap not (le-leb (sizeOfMinPlusPeersMax b) (b .initiator .settings .«t_off») w))
 
-    gets-end-is : getsEnd b ≡ keeps 0 0 (responderOpen b)
-    unfolding followsOf takenOf endTaken
+    gets-end-is : getsEnd b ≡ kept 0 0 (responderOpen b)
+    unfolding followsOf messageTaken endTaken
     gets-end-is = end-judged 1 (lit≤ tt) (ap (λ (o : Outcome). o .reply) gets-est-is)
 
     both-open : BothOpen b
@@ -425,16 +425,16 @@ module _ (b : Boxes) (j : Joined b) where
   -- ---- offsets beyond T_off
 
   module _ (w : b .initiator .settings .«t_off» < sizeOfMinPlusPeersMax b) where
-    est-refused : getsEst b ≡ refuses (sentAnsw2 b) (b .i4) (est b)
+    est-refused : getsEst b ≡ refusing (sentAnsw2 b) (b .i4) (est b)
     unfolding followsOf
     est-refused = est-judged true (ap not (lt-leb (sizeOfMinPlusPeersMax b) (b .initiator .settings .«t_off») w))
 
-    end-refused : getsEnd b ≡ releases 209 0
-    unfolding followsOf refuses
+    end-refused : getsEnd b ≡ released 209 0
+    unfolding followsOf refusing
     end-refused = end-judged 0 (lit≤ tt) (ap (λ (o : Outcome). o .reply) est-refused)
 
     both-released : BothReleased b
-    unfolding refuses
+    unfolding refusing
     both-released =
         record {
           before = up-to-est;

@@ -10,9 +10,9 @@ use Rattle.clock.specs.declared.Count.{Count}
 use Rattle.clock.specs.declared.Offset.{Offset}
 use Rattle.connection.specs.declared.Settings.{Settings}
 use Rattle.connection.specs.declared.Connection.{Connection}
-use Rattle.connection.specs.Connection.{closed, opened, outOfRange, released}
-use Rattle.judging.specs.declared.Outcome.{Outcome}
-use Rattle.judging.specs.Judging.{offsetBetween}
+use Rattle.connection.specs.Connection.{closed, opened, outOfRange, allZero}
+use Rattle.what_follows.specs.declared.Outcome.{Outcome}
+use Rattle.what_follows.specs.Follows.{offsetBetween}
 use Rattle.calls.specs.declared.Answer.{Answer}
 use Rattle.calls.specs.Calls.{beginOutcome, receiveOutcome, answerOf, outAfter}
 
@@ -209,8 +209,8 @@ TwoBoxesOpenInTime =
 abbrev pub worked : ℕ → Boxes
 worked t-off =
     record {
-      initiator = record { slot = released; settings = settings t-off; first = 65535; period = 50 };
-      responder = record { slot = released; settings = settings 0; first = 9; period = 50 };
+      initiator = record { slot = allZero; settings = settings t-off; first = 65535; period = 50 };
+      responder = record { slot = allZero; settings = settings 0; first = 9; period = 50 };
       i1 = record { 0 = 1000 };
       r0 = record { 0 = 100 };
       r1 = record { 0 = 170 };

@@ -14,12 +14,12 @@ use Rattle.field.specs.Field.{fieldOf}
 use Rattle.message.specs.Layout.{dataTail}
 use Rattle.message.specs.Table.{tableOf, lists}
 use Rattle.message.specs.Read.{laterStamp, checkOver, wholeOf, parsedOf}
-use Rattle.connection.specs.Connection.{_outside_to_, outOfRange, unsound, released}
-use Rattle.faults.specs.Faults.{expectationOf, numberJudged, dropped, tooFar, gap, wrongEcho, accepts, checkFailed, ageNumber, faultOf}
-use Rattle.judging.specs.Judging.{answ1Taken, estTaken, dataTaken, takenOf, raises, openFollowsOf, followsOf, stepOf}
+use Rattle.connection.specs.Connection.{_outside_to_, outOfRange, unsound, allZero}
+use Rattle.peer_faults.specs.Faults.{expectationOf, numberJudged, notAhead, beyondN, gap, wrongEcho, accepts, checkFailed, ageNumber, faultOf}
+use Rattle.what_follows.specs.Follows.{answ1Taken, estTaken, dataTaken, messageTaken, raised, openFollowsOf, followsOf, stepOf}
 use Rattle.connection.specs.declared.Connection.{Connection}
 use Rattle.calls.specs.Calls.{startHeader, bad, closeRefusal, tickRefusal, receiveRefusal, beginRefusal, timed, expired, receiveOutcome, beginOutcome}
-use Rattle.calls.specs.Promises.{deliversTo}
+use Rattle.promises.specs.Promises.{deliversTo}
 use Rattle.true_age.specs.Clocks.{InBand, countOf}
 use Rattle.true_age.specs.History.{Ours, JudgedBytes, newest, earlier, begun, received}
 use Rattle.worked_histories.specs.Worlds.{StaysInBand, Runs, arrivals, worldOf, initiators, responders}
@@ -87,7 +87,7 @@ minOf c = c .min .0
 -- ---- each premise missed
 
 pub another-record : AnotherRecord
-unfolding modulo wrapped centred goesBack waitOf ageOf verdictOf offsetRead distanceOf nextOf fieldOf tableOf lists laterStamp checkOver wholeOf parsedOf _outside_to_ outOfRange unsound expectationOf numberJudged dropped tooFar gap wrongEcho accepts checkFailed ageNumber faultOf answ1Taken estTaken dataTaken takenOf raises openFollowsOf followsOf stepOf bad closeRefusal tickRefusal receiveRefusal beginRefusal timed expired receiveOutcome beginOutcome deliversTo
+unfolding modulo wrapped centred goesBack waitOf ageOf verdictOf offsetRead distanceOf nextOf fieldOf tableOf lists laterStamp checkOver wholeOf parsedOf _outside_to_ outOfRange unsound expectationOf numberJudged notAhead beyondN gap wrongEcho accepts checkFailed ageNumber faultOf answ1Taken estTaken dataTaken messageTaken raised openFollowsOf followsOf stepOf bad closeRefusal tickRefusal receiveRefusal beginRefusal timed expired receiveOutcome beginOutcome deliversTo
 another-record =
     record {
       runs = responders-run;
@@ -100,7 +100,7 @@ another-record =
     }
 
 pub begun-after : BegunAfter
-unfolding modulo wrapped centred goesBack waitOf ageOf verdictOf offsetRead distanceOf nextOf fieldOf tableOf lists laterStamp checkOver wholeOf parsedOf _outside_to_ outOfRange unsound expectationOf numberJudged dropped tooFar gap wrongEcho accepts checkFailed ageNumber faultOf answ1Taken estTaken dataTaken takenOf raises openFollowsOf followsOf stepOf bad closeRefusal tickRefusal receiveRefusal beginRefusal timed expired receiveOutcome beginOutcome deliversTo
+unfolding modulo wrapped centred goesBack waitOf ageOf verdictOf offsetRead distanceOf nextOf fieldOf tableOf lists laterStamp checkOver wholeOf parsedOf _outside_to_ outOfRange unsound expectationOf numberJudged notAhead beyondN gap wrongEcho accepts checkFailed ageNumber faultOf answ1Taken estTaken dataTaken messageTaken raised openFollowsOf followsOf stepOf bad closeRefusal tickRefusal receiveRefusal beginRefusal timed expired receiveOutcome beginOutcome deliversTo
 begun-after =
     record {
       runs = quick-runs;
@@ -115,7 +115,7 @@ begun-after =
     }
 
 pub taken-before-sent : TakenBeforeSent
-unfolding modulo wrapped centred goesBack waitOf ageOf verdictOf offsetRead distanceOf nextOf fieldOf tableOf lists laterStamp checkOver wholeOf parsedOf _outside_to_ outOfRange unsound expectationOf numberJudged dropped tooFar gap wrongEcho accepts checkFailed ageNumber faultOf answ1Taken estTaken dataTaken takenOf raises openFollowsOf followsOf stepOf bad closeRefusal tickRefusal receiveRefusal beginRefusal timed expired receiveOutcome beginOutcome deliversTo
+unfolding modulo wrapped centred goesBack waitOf ageOf verdictOf offsetRead distanceOf nextOf fieldOf tableOf lists laterStamp checkOver wholeOf parsedOf _outside_to_ outOfRange unsound expectationOf numberJudged notAhead beyondN gap wrongEcho accepts checkFailed ageNumber faultOf answ1Taken estTaken dataTaken messageTaken raised openFollowsOf followsOf stepOf bad closeRefusal tickRefusal receiveRefusal beginRefusal timed expired receiveOutcome beginOutcome deliversTo
 taken-before-sent =
     record {
       runs = drifting-runs;
@@ -139,15 +139,15 @@ module _ (first : ℕ) where
   pub opens-as-reported : (reports : List ℕ)
       → JudgedBytes (asReported first responders-run) 1000 (begin (asReported first responders-run) 0 settings200 7 50 1000 .log) 1080 (parsedOf reports)
       → Reaches (asReported first responders-run) 1000 0 settings200 (openAsReported first reports responders-run)
-  unfolding modulo wrapped centred goesBack waitOf ageOf verdictOf offsetRead distanceOf nextOf fieldOf tableOf lists laterStamp checkOver wholeOf parsedOf _outside_to_ outOfRange unsound expectationOf numberJudged dropped tooFar gap wrongEcho accepts checkFailed ageNumber faultOf answ1Taken estTaken dataTaken takenOf raises openFollowsOf followsOf stepOf bad closeRefusal tickRefusal receiveRefusal beginRefusal timed expired receiveOutcome beginOutcome deliversTo
+  unfolding modulo wrapped centred goesBack waitOf ageOf verdictOf offsetRead distanceOf nextOf fieldOf tableOf lists laterStamp checkOver wholeOf parsedOf _outside_to_ outOfRange unsound expectationOf numberJudged notAhead beyondN gap wrongEcho accepts checkFailed ageNumber faultOf answ1Taken estTaken dataTaken messageTaken raised openFollowsOf followsOf stepOf bad closeRefusal tickRefusal receiveRefusal beginRefusal timed expired receiveOutcome beginOutcome deliversTo
   opens-as-reported reports judged =
       received
-      (received (begun released 7 50 1000 room (λ _. lit≤ tt) refl) 1080 (lit≤ tt) reports room (λ _ _. judged))
+      (received (begun allZero 7 50 1000 room (λ _. lit≤ tt) refl) 1080 (lit≤ tt) reports room (λ _ _. judged))
       1110 (lit≤ tt) est room
       (λ _ _. record { sent = 1095; since = lit≤ tt; onward = lit≤ tt; stamped = refl; reports = type-4-on 4 (lit< tt) })
 
 pub report-of-another : ReportOfAnother
-unfolding modulo wrapped centred goesBack waitOf ageOf verdictOf offsetRead distanceOf nextOf fieldOf tableOf lists laterStamp checkOver wholeOf parsedOf _outside_to_ outOfRange unsound expectationOf numberJudged dropped tooFar gap wrongEcho accepts checkFailed ageNumber faultOf answ1Taken estTaken dataTaken takenOf raises openFollowsOf followsOf stepOf bad closeRefusal tickRefusal receiveRefusal beginRefusal timed expired receiveOutcome beginOutcome deliversTo
+unfolding modulo wrapped centred goesBack waitOf ageOf verdictOf offsetRead distanceOf nextOf fieldOf tableOf lists laterStamp checkOver wholeOf parsedOf _outside_to_ outOfRange unsound expectationOf numberJudged notAhead beyondN gap wrongEcho accepts checkFailed ageNumber faultOf answ1Taken estTaken dataTaken messageTaken raised openFollowsOf followsOf stepOf bad closeRefusal tickRefusal receiveRefusal beginRefusal timed expired receiveOutcome beginOutcome deliversTo
 report-of-another =
     record {
       runs = responders-run;

@@ -13,7 +13,7 @@ use Rattle.message.specs.declared.Tail.{Tail}
 use Rattle.message.specs.declared.Parsed.{Parsed}
 use Rattle.connection.specs.declared.Settings.{Settings}
 use Rattle.connection.specs.Connection.{opened}
-use Rattle.faults.specs.Faults.{messageAge}
+use Rattle.peer_faults.specs.Faults.{messageAge}
 use Rattle.calls.specs.Calls.{receiveOutcome}
 use Rattle.true_age.specs.Clocks.{World, countOf}
 use Rattle.true_age.specs.History.{Ours, Written, History, received}

@@ -13,8 +13,8 @@ use Rattle.message.specs.Layout.{dataTail}
 use Rattle.message.specs.Table.{tableOf, lists}
 use Rattle.message.specs.Read.{laterStamp, checkOver, wholeOf, parsedOf}
 use Rattle.connection.specs.Connection.{_outside_to_, outOfRange, unsound}
-use Rattle.faults.specs.Faults.{expectationOf, numberJudged, dropped, tooFar, gap, wrongEcho, accepts, checkFailed, ageNumber, faultOf}
-use Rattle.judging.specs.Judging.{answ1Taken, estTaken, dataTaken, takenOf, raises, openFollowsOf, followsOf, stepOf}
+use Rattle.peer_faults.specs.Faults.{expectationOf, numberJudged, notAhead, beyondN, gap, wrongEcho, accepts, checkFailed, ageNumber, faultOf}
+use Rattle.what_follows.specs.Follows.{answ1Taken, estTaken, dataTaken, messageTaken, raised, openFollowsOf, followsOf, stepOf}
 use Rattle.calls.specs.Calls.{bad, closeRefusal, tickRefusal, receiveRefusal, sendRefusal, beginRefusal, timed, expired, receiveOutcome, tickOutcome, sendOutcome, beginOutcome}
 use Rattle.true_age.specs.History.{newest, earlier, sent, ticked}
 use Rattle.worked_histories.specs.Worlds.{StaysInBand, Runs, responders, past}
@@ -43,7 +43,7 @@ band judged =
     under t p h = omega arith
 
 pub initiator-meets : InitiatorMeets
-unfolding modulo wrapped centred goesBack waitOf ageOf verdictOf offsetRead distanceOf nextOf fieldOf tableOf lists laterStamp checkOver wholeOf parsedOf _outside_to_ outOfRange unsound expectationOf numberJudged dropped tooFar gap wrongEcho accepts checkFailed ageNumber faultOf answ1Taken estTaken dataTaken takenOf raises openFollowsOf followsOf stepOf bad closeRefusal tickRefusal receiveRefusal sendRefusal beginRefusal timed expired receiveOutcome tickOutcome sendOutcome beginOutcome
+unfolding modulo wrapped centred goesBack waitOf ageOf verdictOf offsetRead distanceOf nextOf fieldOf tableOf lists laterStamp checkOver wholeOf parsedOf _outside_to_ outOfRange unsound expectationOf numberJudged notAhead beyondN gap wrongEcho accepts checkFailed ageNumber faultOf answ1Taken estTaken dataTaken messageTaken raised openFollowsOf followsOf stepOf bad closeRefusal tickRefusal receiveRefusal sendRefusal beginRefusal timed expired receiveOutcome tickOutcome sendOutcome beginOutcome
 initiator-meets =
     record {
       runs = runs;
@@ -98,7 +98,7 @@ slow-band judged =
     under t p h k = omega arith
 
 pub late-reached : LateReached
-unfolding modulo wrapped centred goesBack waitOf ageOf verdictOf offsetRead distanceOf nextOf fieldOf tableOf lists laterStamp checkOver wholeOf parsedOf _outside_to_ outOfRange unsound expectationOf numberJudged dropped tooFar gap wrongEcho accepts checkFailed ageNumber faultOf answ1Taken estTaken takenOf raises openFollowsOf followsOf stepOf bad closeRefusal tickRefusal receiveRefusal beginRefusal timed expired receiveOutcome beginOutcome
+unfolding modulo wrapped centred goesBack waitOf ageOf verdictOf offsetRead distanceOf nextOf fieldOf tableOf lists laterStamp checkOver wholeOf parsedOf _outside_to_ outOfRange unsound expectationOf numberJudged notAhead beyondN gap wrongEcho accepts checkFailed ageNumber faultOf answ1Taken estTaken messageTaken raised openFollowsOf followsOf stepOf bad closeRefusal tickRefusal receiveRefusal beginRefusal timed expired receiveOutcome beginOutcome
 late-reached =
     record {
       runs = slow-runs;

@@ -13,11 +13,11 @@ use Rattle.field.specs.Field.{fieldOf}
 use Rattle.message.specs.Layout.{dataTail}
 use Rattle.message.specs.Table.{tableOf, lists}
 use Rattle.message.specs.Read.{laterStamp, checkOver, wholeOf, parsedOf}
-use Rattle.connection.specs.Connection.{_outside_to_, outOfRange, unsound, released}
-use Rattle.faults.specs.Faults.{expectationOf, numberJudged, dropped, tooFar, gap, wrongEcho, accepts, checkFailed, ageNumber, faultOf}
-use Rattle.judging.specs.Judging.{answ1Taken, estTaken, dataTaken, takenOf, raises, openFollowsOf, followsOf, stepOf}
+use Rattle.connection.specs.Connection.{_outside_to_, outOfRange, unsound, allZero}
+use Rattle.peer_faults.specs.Faults.{expectationOf, numberJudged, notAhead, beyondN, gap, wrongEcho, accepts, checkFailed, ageNumber, faultOf}
+use Rattle.what_follows.specs.Follows.{answ1Taken, estTaken, dataTaken, messageTaken, raised, openFollowsOf, followsOf, stepOf}
 use Rattle.calls.specs.Calls.{startHeader, bad, closeRefusal, tickRefusal, receiveRefusal, beginRefusal, timed, expired, receiveOutcome, tickOutcome, beginOutcome}
-use Rattle.calls.specs.Promises.{deliversTo}
+use Rattle.promises.specs.Promises.{deliversTo}
 use Rattle.true_age.specs.Clocks.{countOf}
 use Rattle.true_age.specs.History.{Ours, newest, earlier, begun, received, ticked}
 use Rattle.worked_histories.specs.Worlds.{StaysInBand, Runs, arrivals, responders, past, standingBefore}
@@ -62,7 +62,7 @@ called-band judged =
 -- ---- each premise missed
 
 pub each-is-needed : EachIsNeeded
-unfolding modulo wrapped centred goesBack waitOf ageOf verdictOf offsetRead distanceOf nextOf fieldOf tableOf lists laterStamp checkOver wholeOf parsedOf _outside_to_ outOfRange unsound expectationOf numberJudged dropped tooFar gap wrongEcho accepts checkFailed ageNumber faultOf answ1Taken estTaken dataTaken takenOf raises openFollowsOf followsOf stepOf bad closeRefusal tickRefusal receiveRefusal beginRefusal timed expired receiveOutcome tickOutcome beginOutcome deliversTo
+unfolding modulo wrapped centred goesBack waitOf ageOf verdictOf offsetRead distanceOf nextOf fieldOf tableOf lists laterStamp checkOver wholeOf parsedOf _outside_to_ outOfRange unsound expectationOf numberJudged notAhead beyondN gap wrongEcho accepts checkFailed ageNumber faultOf answ1Taken estTaken dataTaken messageTaken raised openFollowsOf followsOf stepOf bad closeRefusal tickRefusal receiveRefusal beginRefusal timed expired receiveOutcome tickOutcome beginOutcome deliversTo
 each-is-needed =
     record {
       at-the-bound = record {
@@ -160,7 +160,7 @@ each-is-needed =
     opens-as-called : Reaches (asCalled now-runs responders-run) 1000 0 settings200 (openAsCalled now-runs responders-run)
     opens-as-called =
         received
-        (received (begun released 7 50 1000 room (λ _. lit≤ tt) refl) 1080 (lit≤ tt) answ1 room
+        (received (begun allZero 7 50 1000 room (λ _. lit≤ tt) refl) 1080 (lit≤ tt) answ1 room
         (λ _ _. record {
           sent = 1050;
           since = lit≤ tt;

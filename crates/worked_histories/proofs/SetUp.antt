@@ -10,7 +10,7 @@ use Rattle.field.specs.Field.{fieldOf}
 use Rattle.message.specs.Table.{tableOf, lists}
 use Rattle.message.specs.Read.{laterStamp, checkOver, wholeOf, parsedOf}
 use Rattle.connection.specs.declared.Settings.{Settings}
-use Rattle.connection.specs.Connection.{released}
+use Rattle.connection.specs.Connection.{allZero}
 use Rattle.calls.specs.Calls.{beginOutcome}
 use Rattle.true_age.specs.Clocks.{countOf}
 use Rattle.true_age.specs.History.{Written, History, begun, received}
@@ -21,14 +21,14 @@ use Rattle.worked_histories.proofs.Histories.{type-1, type-4-on}
 
 module _ (peers : ℕ → ℕ) (runs : Runs peers) where
   pub initiator-set-up : peers 1020 ≡ 170 → peers 1050 ≡ 200 → peers 1095 ≡ 245
-      → (settings : Settings) → beginOutcome released 0 settings 7 50 (countOf 1000) room .answer ≡ 0
+      → (settings : Settings) → beginOutcome allZero 0 settings 7 50 (countOf 1000) room .answer ≡ 0
       → Written (atInitiator peers runs) 0 (offsetStart peers runs) (initiatorAwaits2 peers runs settings .log)
       → History (atInitiator peers runs) 1000 0 settings
       (initiatorOpen peers runs settings .log) 1110 (initiatorOpen peers runs settings .c)
   unfolding modulo wrapped offsetRead fieldOf tableOf lists laterStamp checkOver wholeOf parsedOf
   initiator-set-up at1020 at1050 at1095 settings begins written =
       received
-      (received (begun released 7 50 1000 room (λ _. lit≤ tt) begins) 1080 (lit≤ tt) answ1 room
+      (received (begun allZero 7 50 1000 room (λ _. lit≤ tt) begins) 1080 (lit≤ tt) answ1 room
       (λ _ _. record {
         sent = 1050;
         since = lit≤ tt;
@@ -54,7 +54,7 @@ module _ (peers : ℕ → ℕ) (runs : Runs peers) where
 
 module _ (peers : ℕ → ℕ) (ours-runs : Runs responders) (runs : Runs peers) where
   pub responder-set-up : peers 1000 ≡ 1000 → peers 1080 ≡ 1080 → peers 1100 ≡ 1100 → peers 1130 ≡ 1130
-      → (settings : Settings) → beginOutcome released 1 settings 30 50 (countOf 50) room .answer ≡ 0
+      → (settings : Settings) → beginOutcome allZero 1 settings 30 50 (countOf 50) room .answer ≡ 0
       → Written (atResponder peers ours-runs runs) 0 (offsetAnsw1 peers ours-runs runs) (responderAwaits3 peers ours-runs runs settings .log)
       → History (atResponder peers ours-runs runs) 1000 1 settings
       (responderOpen peers ours-runs runs settings .log) 1140 (responderOpen peers ours-runs runs settings .c)
@@ -62,7 +62,7 @@ module _ (peers : ℕ → ℕ) (ours-runs : Runs responders) (runs : Runs peers)
   responder-set-up at1000 at1080 at1100 at1130 settings begins written =
       received
       (received
-      (received (begun released 30 50 900 room (λ e. let z : ⊥ = omega arith in absurd z) begins) 1050 (lit≤ tt) start room
+      (received (begun allZero 30 50 900 room (λ e. let z : ⊥ = omega arith in absurd z) begins) 1050 (lit≤ tt) start room
       (λ _ _. record {
         sent = 1000;
         since = lit≤ tt;

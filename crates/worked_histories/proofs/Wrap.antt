@@ -11,9 +11,9 @@ use Rattle.field.specs.Field.{fieldOf}
 use Rattle.message.specs.Layout.{dataTail}
 use Rattle.message.specs.Table.{tableOf, lists}
 use Rattle.message.specs.Read.{laterStamp, checkOver, wholeOf, parsedOf}
-use Rattle.connection.specs.Connection.{_outside_to_, outOfRange, unsound, released}
-use Rattle.faults.specs.Faults.{expectationOf, numberJudged, dropped, tooFar, gap, wrongEcho, accepts, checkFailed, ageNumber, faultOf}
-use Rattle.judging.specs.Judging.{answ1Taken, estTaken, dataTaken, takenOf, raises, openFollowsOf, followsOf, stepOf}
+use Rattle.connection.specs.Connection.{_outside_to_, outOfRange, unsound, allZero}
+use Rattle.peer_faults.specs.Faults.{expectationOf, numberJudged, notAhead, beyondN, gap, wrongEcho, accepts, checkFailed, ageNumber, faultOf}
+use Rattle.what_follows.specs.Follows.{answ1Taken, estTaken, dataTaken, messageTaken, raised, openFollowsOf, followsOf, stepOf}
 use Rattle.calls.specs.Calls.{bad, closeRefusal, tickRefusal, receiveRefusal, beginRefusal, timed, expired, receiveOutcome, beginOutcome}
 use Rattle.true_age.specs.History.{newest, earlier, begun, received}
 use Rattle.worked_histories.specs.Worlds.{StaysInBand, Runs}
@@ -38,7 +38,7 @@ band judged =
     }
 
 pub across-the-wrap : AcrossTheWrap
-unfolding modulo wrapped centred goesBack waitOf ageOf verdictOf offsetRead distanceOf nextOf fieldOf tableOf lists laterStamp checkOver wholeOf parsedOf _outside_to_ outOfRange unsound expectationOf numberJudged dropped tooFar gap wrongEcho accepts checkFailed ageNumber faultOf answ1Taken estTaken dataTaken takenOf raises openFollowsOf followsOf stepOf bad closeRefusal tickRefusal receiveRefusal beginRefusal timed expired receiveOutcome beginOutcome
+unfolding modulo wrapped centred goesBack waitOf ageOf verdictOf offsetRead distanceOf nextOf fieldOf tableOf lists laterStamp checkOver wholeOf parsedOf _outside_to_ outOfRange unsound expectationOf numberJudged notAhead beyondN gap wrongEcho accepts checkFailed ageNumber faultOf answ1Taken estTaken dataTaken messageTaken raised openFollowsOf followsOf stepOf bad closeRefusal tickRefusal receiveRefusal beginRefusal timed expired receiveOutcome beginOutcome
 across-the-wrap =
     record {
       ours-runs = ours-runs;
@@ -53,7 +53,7 @@ across-the-wrap =
     opens : Reaches (world ours-runs runs) 0 0 settings200 (afterEst ours-runs runs)
     opens =
         received
-        (received (begun released 7 50 0 room (λ _. lit≤ tt) refl) 80 (lit≤ tt) answ1 room
+        (received (begun allZero 7 50 0 room (λ _. lit≤ tt) refl) 80 (lit≤ tt) answ1 room
         (λ _ _. record {
           sent = 50;
           since = lit≤ tt;

@@ -6,7 +6,7 @@ use mathlib.Core.List.{List, [], _∷_}
 use lib.Dec.{lit≤}
 use lib.ListN.{replicate}
 use Rattle.connection.specs.declared.Connection.{Connection}
-use Rattle.connection.specs.Connection.{opened, released}
+use Rattle.connection.specs.Connection.{opened, allZero}
 use Rattle.calls.specs.declared.Answer.{Answer}
 use Rattle.calls.specs.Calls.{deliveredOf}
 use Rattle.table.specs.Table.{recordAt}
@@ -46,7 +46,7 @@ abbrev pub beginsSlot0 : Call
 beginsSlot0 = begin 1 settings200 9 50 (countOf 1120) out
 
 abbrev pub table0 : List Connection
-table0 = released ∷ released ∷ []
+table0 = allZero ∷ allZero ∷ []
 
 abbrev pub table1 : List Connection
 table1 = tableThen table0 1 beginsSlot1

@@ -9,9 +9,9 @@ use Rattle.message.specs.declared.Tail.{Tail}
 use Rattle.message.specs.declared.Parsed.{Parsed}
 use Rattle.connection.specs.declared.Settings.{Settings}
 use Rattle.connection.specs.declared.Connection.{Connection}
-use Rattle.connection.specs.Connection.{opened, released}
-use Rattle.judging.specs.declared.Outcome.{Outcome}
-use Rattle.faults.specs.Faults.{messageAge}
+use Rattle.connection.specs.Connection.{opened, allZero}
+use Rattle.what_follows.specs.declared.Outcome.{Outcome}
+use Rattle.peer_faults.specs.Faults.{messageAge}
 use Rattle.calls.specs.Calls.{beginOutcome, receiveOutcome, sendOutcome, tickOutcome}
 use Rattle.true_age.specs.Clocks.{World, InBand, countOf}
 use Rattle.true_age.specs.History.{Ours, withWritten, Written, Judged, History}
@@ -33,7 +33,7 @@ module _ (W : World) where
 
   -- each call gets our count as its now; begin is on a released slot
   abbrev pub begin : ℕ → Settings → ℕ → ℕ → W .Moment → Place
-  begin role settings first period t = placeAfter [] t (beginOutcome released role settings first period (countOf (W .ours t)) room)
+  begin role settings first period t = placeAfter [] t (beginOutcome allZero role settings first period (countOf (W .ours t)) room)
 
   abbrev pub receive : Place → W .Moment → List ℕ → Place
   receive p u message = placeAfter (p .log) u (receiveOutcome (p .c) (countOf (W .ours u)) message room)

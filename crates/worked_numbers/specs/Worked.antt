@@ -9,9 +9,9 @@ use Rattle.number.specs.Number.{distanceOf}
 use Rattle.message.specs.Read.{headerOf}
 use Rattle.connection.specs.declared.Settings.{Settings}
 use Rattle.connection.specs.declared.Connection.{Connection}
-use Rattle.connection.specs.Connection.{opened, released}
-use Rattle.faults.specs.Faults.{messageAge}
-use Rattle.judging.specs.declared.Outcome.{Outcome}
+use Rattle.connection.specs.Connection.{opened, allZero}
+use Rattle.peer_faults.specs.Faults.{messageAge}
+use Rattle.what_follows.specs.declared.Outcome.{Outcome}
 use Rattle.calls.specs.Calls.{beginOutcome, receiveOutcome, outAfter, deliveredOf}
 use Rattle.worked_numbers.specs.declared.Offsets.{Offsets}
 
@@ -77,7 +77,7 @@ application x y stamp = (0x06 ∷ x ∷ y ∷ []) ++ stamp ++ replicate 8 0x00 +
 
 -- I1 1000, number 7, period 50
 unfoldable pub begins : Settings → Outcome
-begins s = beginOutcome released 0 s 7 50 (count 1000) 19
+begins s = beginOutcome allZero 0 s 7 50 (count 1000) 19
 
 -- I2 1080
 unfoldable pub getsAnsw1 : Settings → List ℕ → Outcome
@@ -97,7 +97,7 @@ initiator65535 = getsEst (settings 40 10) (answ1 0xFF 0xFE) (est 0xFF 0xFF) .nex
 -- ---- the responder, from its begin on: R2 200 is the now of the call that takes OffsetStart
 
 unfoldable pub getsStart : Settings → Outcome
-getsStart s = receiveOutcome (beginOutcome released 1 s 9 50 (count 150) 0 .next) (count 200) start 25
+getsStart s = receiveOutcome (beginOutcome allZero 1 s 9 50 (count 150) 0 .next) (count 200) start 25
 
 -- R3 260
 unfoldable pub getsAnsw2 : Settings → Outcome
@@ -132,7 +132,7 @@ earlyEst =
     ++ (0x01 ∷ 0x00 ∷ 0x00 ∷ 0x03 ∷ 0x40 ∷ [])
 
 unfoldable pub earlyGetsAnsw1 : Settings → Outcome
-earlyGetsAnsw1 s = receiveOutcome (beginOutcome released 0 s 7 50 (count 800) 19 .next) (count 812) earlyAnsw1 25
+earlyGetsAnsw1 s = receiveOutcome (beginOutcome allZero 0 s 7 50 (count 800) 19 .next) (count 812) earlyAnsw1 25
 
 unfoldable pub earlyGetsEst : Settings → Outcome
 earlyGetsEst s = receiveOutcome (earlyGetsAnsw1 s .next) (count 820) earlyEst 25
@@ -212,11 +212,11 @@ starred =
     ∷ answerTo (early 36) 860 (application 0x00 0x0B stamp4294967290) gives 0
     ∷ answerTo (early 35) 860 (application 0x00 0x0B stamp4294967290) gives 205
     -- NUM-10: last 65535, next 0
-    ∷ initiator65535 .«last_number» gives 65535
-    ∷ distanceOf (headerOf (application 0x00 0x00 stamp300) .number) (initiator65535 .«last_number») gives 1
+    ∷ initiator65535 .peer .number gives 65535
+    ∷ distanceOf (headerOf (application 0x00 0x00 stamp300) .number) (initiator65535 .peer .number) gives 1
     ∷ answerTo initiator65535 1170 (application 0x00 0x00 stamp300) gives 0
     -- NUM-11: last 10, next 13
-    ∷ initiator 40 .«last_number» gives 10
+    ∷ initiator 40 .peer .number gives 10
     ∷ answerTo (initiator 40) 1170 (application 0x00 0x0D stamp300) gives 204
     -- NUM-12: next 14
     ∷ answerTo (initiator 40) 1170 (application 0x00 0x0E stamp300) gives 203

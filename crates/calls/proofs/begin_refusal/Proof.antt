@@ -29,15 +29,15 @@ returns-4 c = search (tests, c .if4 .taken, ← (c .before .out-of-range .ensure
 
 returns-5 : tie.Need-returns-5
 unfolding beginRefusal bad
-returns-5 c = search (tests, c .before .before .if4 .left, ← (c .before .before .before .out-of-range .ensures))
+returns-5 c = search (tests, c .before .before .before .if4 .left, ← (c .before .before .before .before .out-of-range .ensures))
 
 returns-6 : tie.Need-returns-6
 unfolding beginRefusal bad
-returns-6 c = search (tests, c .before .before .if4 .left, ← (c .before .before .before .out-of-range .ensures))
+returns-6 c = search (tests, c .before .before .before .if4 .left, ← (c .before .before .before .before .out-of-range .ensures))
 
 returns-7 : tie.Need-returns-7
 unfolding beginRefusal bad
-returns-7 c = search (tests, c .before .if4 .left, ← (c .before .before .out-of-range .ensures))
+returns-7 c = search (tests, c .before .before .if4 .left, ← (c .before .before .before .out-of-range .ensures))
 
 pub begin-refusal-spec : {M : Type 1} → statement M
 begin-refusal-spec =

@@ -8,12 +8,12 @@ use Rattle.calls.proofs.close_outcome.Tie as tie
 close-refusal-requires : tie.Need-close-refusal-requires
 close-refusal-requires c κs = search needs
 
-kept-requires : tie.Need-kept-requires
-kept-requires c κs = search needs
+refused-requires : tie.Need-refused-requires
+refused-requires c κs = search needs
 
 returns : tie.Need-returns
 unfolding closeOutcome
-returns c = search (tests, c .kept .ensures, ← (c .before .before .close-refusal .ensures))
+returns c = search (tests, c .refused .ensures, ← (c .before .before .close-refusal .ensures))
 
 released-requires : tie.Need-released-requires
 released-requires c κs = search needs
@@ -24,4 +24,4 @@ returns-2 c = search (tests, c .released .ensures, ← (c .before .before .close
 
 pub close-outcome-spec : {M : Type 1} → statement M
 close-outcome-spec =
-    tie.close (tie.spec close-refusal-requires kept-requires returns released-requires returns-2)
+    tie.close (tie.spec close-refusal-requires refused-requires returns released-requires returns-2)

@@ -23,7 +23,7 @@ same-length c = search needs
 returns-2 : tie.Need-returns-2
 returns-2 c =
     let a = c .before .before .before .before .before .before .before .before .before in
-    let x = put-is (a .args .reply) _ _ (a .args .«data» .now) (a .args .out .now) (c .before .before .before .before .before .reply .given .1) (a .pre) in
+    let x = put-is (a .args .reply) _ _ (a .args .lent .now) (a .args .out .now) (c .before .before .before .before .before .reply .given .1) (a .pre) in
     let w = c .before .before .write .ensures in
     (w .0 ∙ x .0, w .1 ∙ x .1)
 

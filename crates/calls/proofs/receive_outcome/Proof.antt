@@ -8,15 +8,15 @@ use Rattle.calls.proofs.receive_outcome.Tie as tie
 receive-refusal-requires : tie.Need-receive-refusal-requires
 receive-refusal-requires c κs = search needs
 
-kept-requires : tie.Need-kept-requires
-kept-requires c κs = search needs
+refused-requires : tie.Need-refused-requires
+refused-requires c κs = search needs
 
 returns : tie.Need-returns
 unfolding receiveOutcome
-returns c = search (tests, c .kept .ensures, ← (c .before .before .receive-refusal .ensures))
+returns c = search (tests, c .refused .ensures, ← (c .before .before .receive-refusal .ensures))
 
-has-expired-requires : tie.Need-has-expired-requires
-has-expired-requires c κs = search needs
+expired-requires : tie.Need-expired-requires
+expired-requires c κs = search needs
 
 released-requires : tie.Need-released-requires
 released-requires c κs = search needs
@@ -28,7 +28,7 @@ returns-2 c =
       tests,
       c .released .ensures,
       c .before .if2 .taken,
-      ← (c .before .before .has-expired .ensures),
+      ← (c .before .before .expired .ensures),
       ← (c .before .before .before .before .receive-refusal .ensures),
     )
 
@@ -46,7 +46,7 @@ returns-3 c =
       c .step .ensures,
       c .before .parse .ensures,
       c .before .before .if2 .left,
-      ← (c .before .before .before .has-expired .ensures),
+      ← (c .before .before .before .expired .ensures),
       ← (c .before .before .before .before .before .receive-refusal .ensures),
     )
 
@@ -55,9 +55,9 @@ receive-outcome-spec =
     tie.close
     (tie.spec
     receive-refusal-requires
-    kept-requires
+    refused-requires
     returns
-    has-expired-requires
+    expired-requires
     released-requires
     returns-2
     parse-requires

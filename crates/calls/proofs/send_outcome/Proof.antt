@@ -8,12 +8,12 @@ use Rattle.calls.proofs.send_outcome.Tie as tie
 send-refusal-requires : tie.Need-send-refusal-requires
 send-refusal-requires c κs = search needs
 
-kept-requires : tie.Need-kept-requires
-kept-requires c κs = search needs
+refused-requires : tie.Need-refused-requires
+refused-requires c κs = search needs
 
 returns : tie.Need-returns
 unfolding sendOutcome
-returns c = search (tests, c .kept .ensures, ← (c .before .before .send-refusal .ensures))
+returns c = search (tests, c .refused .ensures, ← (c .before .before .send-refusal .ensures))
 
 data-header-requires : tie.Need-data-header-requires
 data-header-requires c κs = search needs
@@ -48,7 +48,7 @@ send-outcome-spec =
     tie.close
     (tie.spec
     send-refusal-requires
-    kept-requires
+    refused-requires
     returns
     data-header-requires
     with-data-requires

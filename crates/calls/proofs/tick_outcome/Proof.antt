@@ -8,15 +8,15 @@ use Rattle.calls.proofs.tick_outcome.Tie as tie
 tick-refusal-requires : tie.Need-tick-refusal-requires
 tick-refusal-requires c κs = search needs
 
-kept-requires : tie.Need-kept-requires
-kept-requires c κs = search needs
+refused-requires : tie.Need-refused-requires
+refused-requires c κs = search needs
 
 returns : tie.Need-returns
 unfolding tickOutcome
-returns c = search (tests, c .kept .ensures, ← (c .before .before .tick-refusal .ensures))
+returns c = search (tests, c .refused .ensures, ← (c .before .before .tick-refusal .ensures))
 
-has-expired-requires : tie.Need-has-expired-requires
-has-expired-requires c κs = search needs
+expired-requires : tie.Need-expired-requires
+expired-requires c κs = search needs
 
 released-requires : tie.Need-released-requires
 released-requires c κs = search needs
@@ -28,25 +28,25 @@ returns-2 c =
       tests,
       c .released .ensures,
       c .before .if2 .taken,
-      ← (c .before .before .has-expired .ensures),
+      ← (c .before .before .expired .ensures),
       ← (c .before .before .before .before .tick-refusal .ensures),
     )
 
 clocked-requires : tie.Need-clocked-requires
 clocked-requires c κs = search needs
 
-kept-requires-2 : tie.Need-kept-requires-2
-kept-requires-2 c κs = search needs
+kept-requires : tie.Need-kept-requires
+kept-requires c κs = search needs
 
 returns-3 : tie.Need-returns-3
 unfolding tickOutcome
 returns-3 c =
     search (
       tests,
-      c .kept2 .ensures,
+      c .kept .ensures,
       c .before .clocked .ensures,
       c .before .before .if2 .left,
-      ← (c .before .before .before .has-expired .ensures),
+      ← (c .before .before .before .expired .ensures),
       ← (c .before .before .before .before .before .tick-refusal .ensures),
     )
 
@@ -55,11 +55,11 @@ tick-outcome-spec =
     tie.close
     (tie.spec
     tick-refusal-requires
-    kept-requires
+    refused-requires
     returns
-    has-expired-requires
+    expired-requires
     released-requires
     returns-2
     clocked-requires
-    kept-requires-2
+    kept-requires
     returns-3)

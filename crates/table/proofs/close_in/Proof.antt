@@ -73,7 +73,7 @@ use denote.Triple.Table.{entered, cited}
 use denote.Triple.Walked.{says, Stays, stay-none, walkOf, goes-none, Walks, ends-at, walked, walk-meets}
 use denote.Exit.{yes}
 use Rattle.connection.specs.declared.Connection.{Connection}
-use Rattle.judging.specs.declared.Outcome.{Outcome}
+use Rattle.what_follows.specs.declared.Outcome.{Outcome}
 use Rattle.calls.specs.declared.Answer.{Answer}
 use Rattle.table.specs.declared.Held.{Held}
 use Rattle.table.specs.Table.{answerAt, tableAfter, closeAt}

@@ -107,8 +107,8 @@ use denote.Triple.Walked.{says, Stays, stay-none, stay-slice, walkOf, goes-none,
 use denote.Exit.{yes}
 use Rattle.clock.specs.declared.Count.{Count}
 use Rattle.connection.specs.declared.Connection.{Connection}
-use Rattle.connection.specs.Connection.{released}
-use Rattle.judging.specs.declared.Outcome.{Outcome}
+use Rattle.connection.specs.Connection.{allZero}
+use Rattle.what_follows.specs.declared.Outcome.{Outcome}
 use Rattle.calls.specs.declared.Answer.{Answer}
 use Rattle.calls.specs.declared.Called.{Called}
 use Rattle.calls.specs.Calls.{calledOf, tickOutcome}
@@ -231,7 +231,7 @@ module _ {M : Type 1} (𝓤 : URA M) (H : Heap 𝓤) (A : Atoms 𝓤) (W : Given
         assigns ! (bin ! (value ! 0 2 refl) (lit ! tt) (record { fits = fits within })) (from ! (stop !)) (store ! 14 refl (tt, record { fits = fits within })) $
         fills ! 0 10 (bin ! (part ! 0 1 0 refl refl refl) (value ! 0 7 refl) tt) refl (tt, tt) $
         rewrite ! 20 (λ (p′ : ℕ). ‵ (fat fullShare tyPtr l₁₀ 0 (vptr b p′))) (sym (place-is (mem T.the-row .size) o i)) refl $ move ! (22 ∷ 23 ∷ 24 ∷ []) $
-        elem-open T.the-type T-laws.the-laws T-laws.the-plain ! tt b o γ ys i released within (λ _.
+        elem-open T.the-type T-laws.the-laws T-laws.the-plain ! tt b o γ ys i allZero within (λ _.
         assigns ! (of-opd ! (part ! 5 5 1 refl refl refl)) (from ! (hop ! (look ! 25 refl) (stop !))) (store ! 0 refl wc) $
         elem-set T.the-type T-laws.the-laws T-laws.the-plain ! tt b o γ ys i within c vc g $ fills ! 3 0 (of-opd ! (part ! 3 5 0 refl refl refl)) refl wa $
         returns ! (look ! 3 refl) $ keep ! (3 ∷ 4 ∷ 5 ∷ 6 ∷ 7 ∷ 8 ∷ 9 ∷ 10 ∷ 11 ∷ 12 ∷ 13 ∷ 14 ∷ 15 ∷ 16 ∷ 17 ∷ 18 ∷ 19 ∷ 20 ∷ 21 ∷ 22 ∷ 23 ∷ 24 ∷ 0 ∷ 1 ∷ 2 ∷ []) $
@@ -245,10 +245,10 @@ module _ {M : Type 1} (𝓤 : URA M) (H : Heap 𝓤) (A : Atoms 𝓤) (W : Given
         (store ! 14 refl (tt, record { fits = fits (in-range (length ys) i ok) })) $
         fills ! 0 8 (bin ! (part ! 0 1 0 refl refl refl) (value ! 0 7 refl) tt) refl (tt, tt) $
         rewrite ! 16 (λ (p′ : ℕ). ‵ (fat fullShare tyPtr l₈ 0 (vptr b p′))) (sym (place-is (mem T.the-row .size) o i)) refl $ move ! (22 ∷ 23 ∷ 24 ∷ []) $
-        elem-open T.the-type T-laws.the-laws T-laws.the-plain ! tt b o γ ys i released (in-range (length ys) i ok) (λ g.
+        elem-open T.the-type T-laws.the-laws T-laws.the-plain ! tt b o γ ys i allZero (in-range (length ys) i ok) (λ g.
         fills ! 5 9 (of-opd ! (load ! (from ! (hop ! (look ! 21 refl) (stop !))) (look ! 0 refl))) refl
         (LL.lawful T.the-type T-laws.the-laws 𝓤 H A W .typed elem _ g .0) $
-        elem-shut T.the-type T-laws.the-laws T-laws.the-plain ! tt b o γ ys i released (in-range (length ys) i ok) g $
+        elem-shut T.the-type T-laws.the-laws T-laws.the-plain ! tt b o γ ys i allZero (in-range (length ys) i ok) g $
         fills ! 3 4 (of-opd ! (value ! 3 9 refl)) refl (LL.lawful T.the-type T-laws.the-laws 𝓤 H A W .typed elem _ g .0) $
         use0 W (raw (Call 𝓤 H A mem′ run .pre to-call)) (goes-call g) $
         calls-at ! fm (Call 𝓤 H A mem′ run) known to-call (and-then ! (value ! 4 4 refl) (and-then ! (value ! 4 3 refl) (no-more !))) (λ w.

@@ -4,7 +4,7 @@ use mathlib.Core.Path.{_≡_, sym, ap, ap₂, _∙_}
 use mathlib.Core.List.{List}
 use native.Mathlib.Omega.{arith}
 use lib.ListN.{length}
-use Rattle.judging.specs.declared.Outcome.{Outcome}
+use Rattle.what_follows.specs.declared.Outcome.{Outcome}
 use Rattle.calls.specs.Calls.{beginOutcome, receiveOutcome, sendOutcome, calledOf, outAfter}
 use Rattle.calls.specs.declared.Called.{Called}
 use Rattle.trace.specs.declared.Begin.{Begin}

@@ -15,6 +15,12 @@ returns c = search (tests, c .if1 .taken, ← (c .before .out-of-range .ensures)
 cast-outside : tie.Need-cast-outside
 cast-outside c = search needs
 
+cast-outside-2 : tie.Need-cast-outside-2
+cast-outside-2 c = search needs
+
+cast-outside-3 : tie.Need-cast-outside-3
+cast-outside-3 c = search needs
+
 outside-requires : tie.Need-outside-requires
 outside-requires c κs = search needs
 
@@ -43,4 +49,4 @@ returns-3 c =
 pub unsound-spec : {M : Type 1} → statement M
 unsound-spec =
     tie.close
-    (tie.spec out-of-range-requires returns cast-outside outside-requires returns-2 returns-3)
+    (tie.spec out-of-range-requires returns cast-outside cast-outside-2 cast-outside-3 outside-requires returns-2 returns-3)

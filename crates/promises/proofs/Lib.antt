@@ -1,0 +1,4 @@
+pub mod Delivery
+pub mod Opening
+pub mod Promises
+pub mod Valid

@@ -1,0 +1,3 @@
+-- What the calls promise beyond their equations, and how a connection opens.
+pub mod Promises
+pub mod Opening

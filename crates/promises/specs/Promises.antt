@@ -1,0 +1,52 @@
+-- What the five calls promise beyond their equations: which numbers they answer, when a slot is released, what a record can become.
+use Prim.Native.Nat.{ℕ, _+_}
+use mathlib.Core.Path.{_≡_}
+use mathlib.Core.Bool.{Bool, true, false, not, _&&_, _||_}
+use mathlib.Core.List.{List, [], _∷_}
+use mathlib.Core.Logic.{_⊎_}
+use lib.Dec.{ltb, leb, eqb}
+use Rattle.rules.specs.Rows.{when_answer_else_}
+use Rattle.connection.specs.declared.Connection.{Connection}
+use Rattle.connection.specs.Connection.{closed, opened, unsound, allZero}
+use Rattle.what_follows.specs.declared.Outcome.{Outcome}
+use Rattle.what_follows.specs.declared.Reply.the-variants.{Nothing}
+
+infix 40 _among_
+-- whether a number is one of a list
+abbrev pub _among_ : ℕ → List ℕ → Bool
+k among [] = false
+k among (n ∷ ns) = eqb k n || (k among ns)
+
+-- a 1xx
+abbrev pub callersFault : ℕ → Bool
+callersFault k = leb 100 k && ltb k 200
+
+-- DEMAND-1, CALL-KEPT: what a caller's fault leaves
+pub record Unchanged (c : Connection) (o : Outcome) : Type 0 where
+  pub same-record : o .next ≡ c
+  pub nothing-written : o .reply ≡ Nothing
+  pub nothing-delivered : o .delivered ≡ 0
+  pub not-released : o .released ≡ false
+
+-- PEER-SAYS, CALL-SAYS: whether a receive or a tick that answers k to this record releases it. Set-up's errors do (SETUP-ERR); when open 203 does
+-- (PEER-203), 201 and 211 don't (PEER-OPEN), and 202, 204, 205 and 206 do where they reach the limit (ERR-2).
+unfoldable pub releasedBy : Connection → ℕ → Bool
+releasedBy c k =
+    when eqb k 0 || callersFault k answer false else
+    when not (eqb (c .phase) opened) answer true else
+    when eqb k 203 answer true else
+    when eqb k 201 || eqb k 211 answer false else
+    leb (c .settings .limit) (c .errors + 1)
+
+-- closed, or not as RECORD-1 says
+abbrev pub Valid : Connection → Type 0
+Valid c = (c .phase ≡ closed) ⊎ (unsound c ≡ false)
+
+-- RECORD-3 of a released slot; any other stays valid
+pub record Stays (o : Outcome) : Type 0 where
+  pub zero : o .released ≡ true → o .next ≡ allZero
+  pub valid : o .released ≡ false → Valid (o .next)
+
+-- AGE-4, PEER-204: delivered with a 0 or a 204 of an open connection
+unfoldable pub deliversTo : Connection → ℕ → Bool
+deliversTo c k = eqb (c .phase) opened && (eqb k 0 || eqb k 204)

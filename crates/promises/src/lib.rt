@@ -1,0 +1,1 @@
+// What the calls promise beyond their equations: no code, definitions and theorems over `calls`.
