@@ -11,6 +11,7 @@ use lib.ListN.{drop, length-drop}
 use lib.Seq.{take-all}
 use Rattle.rules.specs.Rows.{when_answer_else_}
 use Rattle.clock.specs.declared.Count.{Count}
+use Rattle.message.specs.Table.{application, headerSize}
 use Rattle.message.specs.Read.{parsedOf, dataOf}
 use Rattle.message.specs.declared.Header.{Header}
 use Rattle.message.specs.declared.Tail.{Tail}
@@ -28,7 +29,7 @@ use Rattle.promises.proofs.Opening.{Expects, expected-is}
 
 module _ (c : Connection) (now : Count) (message : List ℕ) where
   abbrev Delivers : Outcome → Type 0
-  Delivers o = deliveredOf message (o .delivered) ≡ (when deliversTo c (o .answer) answer dataOf message else [])
+  Delivers o = deliveredOf message (o .delivered) ≡ (when deliversTo c (o .number) answer dataOf message else [])
 
   -- nothing, where nothing is to be delivered
   nothing : (k : ℕ) → deliversTo c k ≡ false → deliveredOf message 0 ≡ (when deliversTo c k answer dataOf message else [])
@@ -36,10 +37,10 @@ module _ (c : Connection) (now : Count) (message : List ℕ) where
   nothing k e = rw e
 
   -- all, of a message of type 6
-  all : (h : Header) (t : Tail) → parsedOf message ≡ Parsed.Whole h t → h .kind ≡ 6 → (k : ℕ) → deliversTo c k ≡ true
+  all : (h : Header) (t : Tail) → parsedOf message ≡ Parsed.Whole h t → h .kind ≡ application → (k : ℕ) → deliversTo c k ≡ true
       → deliveredOf message (t .«data») ≡ (when deliversTo c k answer dataOf message else [])
   unfolding deliveredOf
-  all h t w i k e = rw e (take-all (t .«data») (drop 15 message) (omega (arith, length-drop 15 message, accepted-data message h t w i)))
+  all h t w i k e = rw e (take-all (t .«data») (drop headerSize message) (omega (arith, length-drop headerSize message, accepted-data message h t w i)))
 
   none-but : (k : ℕ) → eqb k 0 ≡ false → eqb k 204 ≡ false → deliversTo c k ≡ false
   unfolding deliversTo
@@ -61,12 +62,12 @@ module _ (c : Connection) (now : Count) (message : List ℕ) where
   unfolding deliversTo
   open-204 e = rw e
 
-  raised : (d : Connection) (k n : ℕ) → deliveredOf message n ≡ (when deliversTo c k answer dataOf message else []) → Delivers (raised d k n)
+  raised-delivers : (d : Connection) (k n : ℕ) → deliveredOf message n ≡ (when deliversTo c k answer dataOf message else []) → Delivers (raised d k n)
   unfolding raised
-  raised d k n e = both Delivers (leb (d .settings .limit) (d .errors + 1)) _ _ (λ _. e) (λ _. e)
+  raised-delivers d k n e = both Delivers (leb (d .settings .limit) (d .errors + 1)) _ _ (λ _. e) (λ _. e)
 
   -- the type that an open connection expects
-  is-data : (h : Header) → Expects (c .phase) (h .kind) → eqb (c .phase) opened ≡ true → h .kind ≡ 6
+  is-data : (h : Header) → Expects (c .phase) (h .kind) → eqb (c .phase) opened ≡ true → h .kind ≡ application
   is-data h (Expects.x2 p k) o = let z : c .phase ≡ opened = eqb-true (c .phase) opened o in let q : ⊥ = omega arith in absurd q
   is-data h (Expects.x4 p k) o = let z : c .phase ≡ opened = eqb-true (c .phase) opened o in let q : ⊥ = omega arith in absurd q
   is-data h (Expects.x1 p k) o = let z : c .phase ≡ opened = eqb-true (c .phase) opened o in let q : ⊥ = omega arith in absurd q
@@ -94,7 +95,7 @@ module _ (c : Connection) (now : Count) (message : List ℕ) where
 
   pub delivers-bytes-from-15 : (room : ℕ)
       → deliveredOf message (receiveOutcome c now message room .delivered)
-      ≡ (when deliversTo c (receiveOutcome c now message room .answer) answer dataOf message else [])
+      ≡ (when deliversTo c (receiveOutcome c now message room .number) answer dataOf message else [])
   unfolding refusing
   delivers-bytes-from-15 room =
       receive-by Delivers c now message room
@@ -110,6 +111,6 @@ module _ (c : Connection) (now : Count) (message : List ℕ) where
         refusing = λ h _. nothing 209 (none-but 209 refl refl);
         in-set-up = λ k f s. nothing k (in-set-up k s);
         too-far = λ _. nothing 203 (none-but 203 refl refl);
-        after-gap = λ h t w x o. raised (heard (clocked c now) h now) 204 (t .«data») (all h t w (is-data h (expected-is (c .phase) (h .kind) x) o) 204 (open-204 o));
-        raising = λ k f _ n _. raised (clocked c now) k 0 (nothing k (none-but k (fault-nothing f) n));
+        after-gap = λ h t w x o. raised-delivers (heard (clocked c now) h now) 204 (t .«data») (all h t w (is-data h (expected-is (c .phase) (h .kind) x) o) 204 (open-204 o));
+        raising = λ k f _ n _. raised-delivers (clocked c now) k 0 (nothing k (none-but k (fault-nothing f) n));
       })

@@ -4,16 +4,17 @@ use Prim.Native.Nat.{ℕ, _+_}
 use mathlib.Core.Path.{_≡_, refl, sym, subst, _∙_}
 use mathlib.Core.Bool.{Bool, true, false, not, _&&_, _||_}
 use mathlib.Core.List.{List}
+use lib.ListN.{length}
 use native.Mathlib.Omega.{arith}
 use borrow.Author.Tests.{not-true}
 use lib.Dec.{T, ltb, leb, eqb}
 use Rattle.clock.specs.Clock.{goesBack}
 use Rattle.clock.specs.declared.Count.{Count}
+use Rattle.message.specs.Table.{offsetStart, offsetAnsw1, offsetAnsw2, offsetEst, offsetEnd, application, headerSize, startSize, estSize, mostData}
 use Rattle.message.specs.Read.{parsedOf}
 use Rattle.message.specs.declared.Header.{Header}
 use Rattle.message.specs.declared.Tail.{Tail}
 use Rattle.message.specs.declared.Parsed.{Parsed}
-use Rattle.connection.specs.declared.Settings.{Settings}
 use Rattle.connection.specs.declared.Connection.{Connection}
 use Rattle.number.specs.Number.{distanceOf}
 use Rattle.connection.specs.Connection.{
@@ -33,6 +34,8 @@ use Rattle.peer_faults.specs.declared.Expectation.the-variants.{Expected, Unexp
 use Rattle.what_follows.specs.declared.Outcome.{Outcome}
 use Rattle.peer_faults.specs.Faults.{expectationOf, notAhead, beyondN, wrongEcho, checkFailed, ageNumber, gap, faultOf}
 use Rattle.what_follows.specs.Follows.{kept, released, malformedOf, startTaken, answ1Taken, answ2Taken, estTaken, endTaken, dataTaken, messageTaken, refusing, raised, openFollowsOf, followsOf, metOf, stepOf}
+use Rattle.calls.specs.declared.Given.{Given}
+use Rattle.calls.specs.declared.Call.{Call}
 use Rattle.calls.specs.Calls.{
   bad,
   closeRefusal,
@@ -48,14 +51,13 @@ use Rattle.calls.specs.Calls.{
   sendOutcome,
   beginOutcome,
   refused,
+  initiator,
+  responder,
+  ruleOf,
+  outcomeOf,
 }
 use Rattle.promises.specs.Promises.{
   _among_,
-  beginNumbers,
-  receiveNumbers,
-  sendNumbers,
-  tickNumbers,
-  closeNumbers,
   callersFault,
   Unchanged,
   releasedBy,
@@ -77,22 +79,22 @@ module _ (Q : ℕ → Type 0) (z : Q 0) (a : Q 101) where
   pub receive-refusal-by : (c : Connection) (now : Count) (room : ℕ) → Q 102 → Q 105 → Q 108 → Q (receiveRefusal c now room)
   unfolding receiveRefusal
   receive-refusal-by c now room b d e =
-      both Q (eqb (tickRefusal c now) 0) _ _ (λ _. both Q (ltb room 25) _ _ (λ _. e) (λ _. z)) (λ _. tick-refusal-by c now b d)
+      both Q (eqb (tickRefusal c now) 0) _ _ (λ _. both Q (ltb room estSize) _ _ (λ _. e) (λ _. z)) (λ _. tick-refusal-by c now b d)
 
   pub send-refusal-by : (c : Connection) (now : Count) (size room : ℕ) → Q 102 → Q 105 → Q 106 → Q 107 → Q 108 → Q (sendRefusal c now size room)
   unfolding sendRefusal
   send-refusal-by c now size room b d e f g =
       both Q (eqb (tickRefusal c now) 0) _ _
       (λ _. both Q (not (eqb (c .phase) opened)) _ _ (λ _. e) (λ _.
-      both Q (ltb 985 size) _ _ (λ _. f) (λ _. both Q (ltb room (15 + size)) _ _ (λ _. g) (λ _. z))))
+      both Q (ltb mostData size) _ _ (λ _. f) (λ _. both Q (ltb room (headerSize + size)) _ _ (λ _. g) (λ _. z))))
       (λ _. tick-refusal-by c now b d)
 
-  pub begin-refusal-by : (c : Connection) (role : ℕ) (settings : Settings) (room : ℕ) → Q 103 → Q 104 → Q 108 → Q (beginRefusal c role settings room)
+  pub begin-refusal-by : (c : Connection) (g : Given) (room : ℕ) → Q 103 → Q 104 → Q 108 → Q (beginRefusal c g room)
   unfolding beginRefusal
-  begin-refusal-by c role settings room b d e =
+  begin-refusal-by c g room b d e =
       both Q (bad c) _ _ (λ _. a) (λ _.
       both Q (not (eqb (c .phase) closed)) _ _ (λ _. b) (λ _.
-      both Q (ltb 1 role || outOfRange settings) _ _ (λ _. d) (λ _. both Q (eqb role 0 && ltb room 19) _ _ (λ _. e) (λ _. z))))
+      both Q (ltb responder (g .role) || outOfRange (g .settings)) _ _ (λ _. d) (λ _. both Q (eqb (g .role) initiator && ltb room startSize) _ _ (λ _. e) (λ _. z))))
 
 -- ---- every outcome of a receive or a tick, once: a promise is shown by its leaves
 
@@ -123,23 +125,23 @@ pub record Leaves (P : Outcome → Type 0) (c : Connection) (now : Count) (p : P
 unexpected-open : (phase type : ℕ) → expectationOf phase type ≡ Unexpected → eqb phase opened ≡ true
 unfolding expectationOf
 unexpected-open phase type =
-    both (λ x. x ≡ Unexpected → eqb phase opened ≡ true) (eqb phase initiatorWaitsFor2 && eqb type 2) _ _ (λ _ e. (let z : _≡_ {A = ℕ} 0 1 = cc in let q : ⊥ = omega arith in absurd q)) (λ _.
-    both (λ x. x ≡ Unexpected → eqb phase opened ≡ true) (eqb phase initiatorWaitsFor4 && eqb type 4) _ _ (λ _ e. (let z : _≡_ {A = ℕ} 0 1 = cc in let q : ⊥ = omega arith in absurd q)) (λ _.
-    both (λ x. x ≡ Unexpected → eqb phase opened ≡ true) (eqb phase responderWaitsFor1 && eqb type 1) _ _ (λ _ e. (let z : _≡_ {A = ℕ} 0 1 = cc in let q : ⊥ = omega arith in absurd q)) (λ _.
-    both (λ x. x ≡ Unexpected → eqb phase opened ≡ true) (eqb phase responderWaitsFor3 && eqb type 3) _ _ (λ _ e. (let z : _≡_ {A = ℕ} 0 1 = cc in let q : ⊥ = omega arith in absurd q)) (λ _.
-    both (λ x. x ≡ Unexpected → eqb phase opened ≡ true) (eqb phase responderWaitsFor5 && eqb type 5) _ _ (λ _ e. (let z : _≡_ {A = ℕ} 0 1 = cc in let q : ⊥ = omega arith in absurd q)) (λ _.
-    both (λ x. x ≡ Unexpected → eqb phase opened ≡ true) (eqb phase opened && eqb type 6) _ _ (λ _ e. (let z : _≡_ {A = ℕ} 0 1 = cc in let q : ⊥ = omega arith in absurd q)) (λ _.
+    both (λ x. x ≡ Unexpected → eqb phase opened ≡ true) (eqb phase initiatorWaitsFor2 && eqb type offsetAnsw1) _ _ (λ _ e. (let z : _≡_ {A = ℕ} 0 1 = cc in let q : ⊥ = omega arith in absurd q)) (λ _.
+    both (λ x. x ≡ Unexpected → eqb phase opened ≡ true) (eqb phase initiatorWaitsFor4 && eqb type offsetEst) _ _ (λ _ e. (let z : _≡_ {A = ℕ} 0 1 = cc in let q : ⊥ = omega arith in absurd q)) (λ _.
+    both (λ x. x ≡ Unexpected → eqb phase opened ≡ true) (eqb phase responderWaitsFor1 && eqb type offsetStart) _ _ (λ _ e. (let z : _≡_ {A = ℕ} 0 1 = cc in let q : ⊥ = omega arith in absurd q)) (λ _.
+    both (λ x. x ≡ Unexpected → eqb phase opened ≡ true) (eqb phase responderWaitsFor3 && eqb type offsetAnsw2) _ _ (λ _ e. (let z : _≡_ {A = ℕ} 0 1 = cc in let q : ⊥ = omega arith in absurd q)) (λ _.
+    both (λ x. x ≡ Unexpected → eqb phase opened ≡ true) (eqb phase responderWaitsFor5 && eqb type offsetEnd) _ _ (λ _ e. (let z : _≡_ {A = ℕ} 0 1 = cc in let q : ⊥ = omega arith in absurd q)) (λ _.
+    both (λ x. x ≡ Unexpected → eqb phase opened ≡ true) (eqb phase opened && eqb type application) _ _ (λ _ e. (let z : _≡_ {A = ℕ} 0 1 = cc in let q : ⊥ = omega arith in absurd q)) (λ _.
     both (λ x. x ≡ Unexpected → eqb phase opened ≡ true) (eqb phase opened) _ _ (λ o e. o) (λ s e. (let z : _≡_ {A = ℕ} 0 1 = cc in let q : ⊥ = omega arith in absurd q))))))))
 
 unexpected-released : (phase type : ℕ) → expectationOf phase type ≡ Released → eqb phase opened ≡ false
 unfolding expectationOf
 unexpected-released phase type =
-    both (λ x. x ≡ Released → eqb phase opened ≡ false) (eqb phase initiatorWaitsFor2 && eqb type 2) _ _ (λ _ e. (let z : _≡_ {A = ℕ} 0 1 = cc in let q : ⊥ = omega arith in absurd q)) (λ _.
-    both (λ x. x ≡ Released → eqb phase opened ≡ false) (eqb phase initiatorWaitsFor4 && eqb type 4) _ _ (λ _ e. (let z : _≡_ {A = ℕ} 0 1 = cc in let q : ⊥ = omega arith in absurd q)) (λ _.
-    both (λ x. x ≡ Released → eqb phase opened ≡ false) (eqb phase responderWaitsFor1 && eqb type 1) _ _ (λ _ e. (let z : _≡_ {A = ℕ} 0 1 = cc in let q : ⊥ = omega arith in absurd q)) (λ _.
-    both (λ x. x ≡ Released → eqb phase opened ≡ false) (eqb phase responderWaitsFor3 && eqb type 3) _ _ (λ _ e. (let z : _≡_ {A = ℕ} 0 1 = cc in let q : ⊥ = omega arith in absurd q)) (λ _.
-    both (λ x. x ≡ Released → eqb phase opened ≡ false) (eqb phase responderWaitsFor5 && eqb type 5) _ _ (λ _ e. (let z : _≡_ {A = ℕ} 0 1 = cc in let q : ⊥ = omega arith in absurd q)) (λ _.
-    both (λ x. x ≡ Released → eqb phase opened ≡ false) (eqb phase opened && eqb type 6) _ _ (λ _ e. (let z : _≡_ {A = ℕ} 0 1 = cc in let q : ⊥ = omega arith in absurd q)) (λ _.
+    both (λ x. x ≡ Released → eqb phase opened ≡ false) (eqb phase initiatorWaitsFor2 && eqb type offsetAnsw1) _ _ (λ _ e. (let z : _≡_ {A = ℕ} 0 1 = cc in let q : ⊥ = omega arith in absurd q)) (λ _.
+    both (λ x. x ≡ Released → eqb phase opened ≡ false) (eqb phase initiatorWaitsFor4 && eqb type offsetEst) _ _ (λ _ e. (let z : _≡_ {A = ℕ} 0 1 = cc in let q : ⊥ = omega arith in absurd q)) (λ _.
+    both (λ x. x ≡ Released → eqb phase opened ≡ false) (eqb phase responderWaitsFor1 && eqb type offsetStart) _ _ (λ _ e. (let z : _≡_ {A = ℕ} 0 1 = cc in let q : ⊥ = omega arith in absurd q)) (λ _.
+    both (λ x. x ≡ Released → eqb phase opened ≡ false) (eqb phase responderWaitsFor3 && eqb type offsetAnsw2) _ _ (λ _ e. (let z : _≡_ {A = ℕ} 0 1 = cc in let q : ⊥ = omega arith in absurd q)) (λ _.
+    both (λ x. x ≡ Released → eqb phase opened ≡ false) (eqb phase responderWaitsFor5 && eqb type offsetEnd) _ _ (λ _ e. (let z : _≡_ {A = ℕ} 0 1 = cc in let q : ⊥ = omega arith in absurd q)) (λ _.
+    both (λ x. x ≡ Released → eqb phase opened ≡ false) (eqb phase opened && eqb type application) _ _ (λ _ e. (let z : _≡_ {A = ℕ} 0 1 = cc in let q : ⊥ = omega arith in absurd q)) (λ _.
     both (λ x. x ≡ Released → eqb phase opened ≡ false) (eqb phase opened) _ _ (λ o e. (let z : _≡_ {A = ℕ} 0 1 = cc in let q : ⊥ = omega arith in absurd q)) (λ s e. s)))))))
 
 module _ (P : Outcome → Type 0) (c : Connection) (now : Count) (p : Parsed) (l : Leaves P c now p) where
@@ -208,22 +210,22 @@ tick-by P c now f g l =
 -- ---- the answer is one of the numbers that are listed for the call
 
 abbrev In : List ℕ → Outcome → Type 0
-In ns o = o .answer among ns ≡ true
+In ns o = o .number among ns ≡ true
 
-raises-in : (ns : List ℕ) (c : Connection) (k n : ℕ) → k among ns ≡ true → In ns (raised c k n)
+raised-in : (ns : List ℕ) (c : Connection) (k n : ℕ) → k among ns ≡ true → In ns (raised c k n)
 unfolding raised
-raises-in ns c k n m = both (In ns) (leb (c .settings .limit) (c .errors + 1)) _ _ (λ _. m) (λ _. m)
+raised-in ns c k n m = both (In ns) (leb (c .settings .limit) (c .errors + 1)) _ _ (λ _. m) (λ _. m)
 
-taken-in : (c : Connection) (now : Count) (h : Header) (t : Tail) → In receiveNumbers (messageTaken c now h t)
+taken-in : (c : Connection) (now : Count) (h : Header) (t : Tail) → In (ruleOf Call.Receive .numbers) (messageTaken c now h t)
 unfolding messageTaken startTaken answ1Taken answ2Taken estTaken endTaken dataTaken
 taken-in c now h t =
-    both (In receiveNumbers) (eqb (h .kind) 1) _ _ (λ _. refl) (λ _.
-    both (In receiveNumbers) (eqb (h .kind) 2) _ _ (λ _. refl) (λ _.
-    both (In receiveNumbers) (eqb (h .kind) 3) _ _ (λ _. refl) (λ _.
-    both (In receiveNumbers) (eqb (h .kind) 4) _ _ (λ _. refl) (λ _.
-    both (In receiveNumbers) (eqb (h .kind) 5) _ _ (λ _. refl) (λ _. refl)))))
+    both (In (ruleOf Call.Receive .numbers)) (eqb (h .kind) offsetStart) _ _ (λ _. refl) (λ _.
+    both (In (ruleOf Call.Receive .numbers)) (eqb (h .kind) offsetAnsw1) _ _ (λ _. refl) (λ _.
+    both (In (ruleOf Call.Receive .numbers)) (eqb (h .kind) offsetAnsw2) _ _ (λ _. refl) (λ _.
+    both (In (ruleOf Call.Receive .numbers)) (eqb (h .kind) offsetEst) _ _ (λ _. refl) (λ _.
+    both (In (ruleOf Call.Receive .numbers)) (eqb (h .kind) offsetEnd) _ _ (λ _. refl) (λ _. refl)))))
 
-fault-in : {k : ℕ} → Fault k → k among receiveNumbers ≡ true
+fault-in : {k : ℕ} → Fault k → k among ruleOf Call.Receive .numbers ≡ true
 fault-in f202 = refl
 fault-in f203 = refl
 fault-in f208 = refl
@@ -232,10 +234,10 @@ fault-in f206 = refl
 fault-in f205 = refl
 fault-in f204 = refl
 
-pub receive-number : (c : Connection) (now : Count) (message : List ℕ) (room : ℕ) → receiveOutcome c now message room .answer among receiveNumbers ≡ true
+pub receive-number : (c : Connection) (now : Count) (message : List ℕ) (room : ℕ) → receiveOutcome c now message room .number among ruleOf Call.Receive .numbers ≡ true
 unfolding refusing
 receive-number c now message room =
-    receive-by (In receiveNumbers) c now message room (λ _. receive-refusal-by (λ k. k among receiveNumbers ≡ true) refl refl c now room refl refl refl) (λ _ _. refl)
+    receive-by (In (ruleOf Call.Receive .numbers)) c now message room (λ _. receive-refusal-by (λ k. k among ruleOf Call.Receive .numbers ≡ true) refl refl c now room refl refl refl) (λ _ _. refl)
     (λ _. record {
       malformed-open = λ _. refl;
       malformed-set-up = λ _. refl;
@@ -245,32 +247,39 @@ receive-number c now message room =
       refusing = λ _ _. refl;
       in-set-up = λ k f _. fault-in f;
       too-far = λ _. refl;
-      after-gap = λ h t _ _ _. raises-in receiveNumbers (heard (clocked c now) h now) 204 (t .«data») refl;
-      raising = λ k f _ _ _. raises-in receiveNumbers (clocked c now) k 0 (fault-in f);
+      after-gap = λ h t _ _ _. raised-in (ruleOf Call.Receive .numbers) (heard (clocked c now) h now) 204 (t .«data») refl;
+      raising = λ k f _ _ _. raised-in (ruleOf Call.Receive .numbers) (clocked c now) k 0 (fault-in f);
     })
 
-pub tick-number : (c : Connection) (now : Count) → tickOutcome c now .answer among tickNumbers ≡ true
+pub tick-number : (c : Connection) (now : Count) → tickOutcome c now .number among ruleOf Call.Tick .numbers ≡ true
 tick-number c now =
-    tick-by (In tickNumbers) c now (λ _. tick-refusal-by (λ k. k among tickNumbers ≡ true) refl refl c now refl refl) (λ _ _. refl) (λ _. refl)
+    tick-by (In (ruleOf Call.Tick .numbers)) c now (λ _. tick-refusal-by (λ k. k among ruleOf Call.Tick .numbers ≡ true) refl refl c now refl refl) (λ _ _. refl) (λ _. refl)
 
-pub close-number : (c : Connection) → closeOutcome c .answer among closeNumbers ≡ true
+pub close-number : (c : Connection) → closeOutcome c .number among ruleOf Call.Close .numbers ≡ true
 unfolding closeOutcome
-close-number c = both (In closeNumbers) (not (eqb (closeRefusal c) 0)) _ _ (λ _. close-refusal-by (λ k. k among closeNumbers ≡ true) refl refl c refl) (λ _. refl)
+close-number c = both (In (ruleOf Call.Close .numbers)) (not (eqb (closeRefusal c) 0)) _ _ (λ _. close-refusal-by (λ k. k among ruleOf Call.Close .numbers ≡ true) refl refl c refl) (λ _. refl)
 
-pub send-number : (c : Connection) (now : Count) (size room : ℕ) → sendOutcome c now size room .answer among sendNumbers ≡ true
+pub send-number : (c : Connection) (now : Count) (size room : ℕ) → sendOutcome c now size room .number among ruleOf Call.Send .numbers ≡ true
 unfolding sendOutcome
-send-number c now size room = both (In sendNumbers) (not (eqb (sendRefusal c now size room) 0)) _ _ (λ _. send-refusal-by (λ k. k among sendNumbers ≡ true) refl refl c now size room refl refl refl refl refl) (λ _. refl)
+send-number c now size room = both (In (ruleOf Call.Send .numbers)) (not (eqb (sendRefusal c now size room) 0)) _ _ (λ _. send-refusal-by (λ k. k among ruleOf Call.Send .numbers ≡ true) refl refl c now size room refl refl refl refl refl) (λ _. refl)
 
-pub begin-number : (c : Connection) (role : ℕ) (settings : Settings) (first period : ℕ) (now : Count) (room : ℕ)
-    → beginOutcome c role settings first period now room .answer among beginNumbers ≡ true
+pub begin-number : (c : Connection) (g : Given) (now : Count) (room : ℕ)
+    → beginOutcome c g now room .number among ruleOf (Call.Begin g) .numbers ≡ true
 unfolding beginOutcome
-begin-number c role settings first period now room =
-    both (In beginNumbers) (not (eqb (beginRefusal c role settings room) 0)) _ _ (λ _. begin-refusal-by (λ k. k among beginNumbers ≡ true) refl refl c role settings room refl refl refl) (λ _. both (In beginNumbers) (eqb role 0) _ _ (λ _. refl) (λ _. refl))
+begin-number c g now room =
+    both (In (ruleOf (Call.Begin g) .numbers)) (not (eqb (beginRefusal c g room) 0)) _ _ (λ _. begin-refusal-by (λ k. k among ruleOf (Call.Begin g) .numbers ≡ true) refl refl c g room refl refl refl) (λ _. both (In (ruleOf (Call.Begin g) .numbers)) (eqb (g .role) initiator) _ _ (λ _. refl) (λ _. refl))
+
+pub call-number : (call : Call) (c : Connection) (now : Count) (lent : List ℕ) (room : ℕ) → outcomeOf call c now lent room .number among ruleOf call .numbers ≡ true
+call-number (Call.Begin g) c now lent room = begin-number c g now room
+call-number Call.Receive c now lent room = receive-number c now lent room
+call-number Call.Send c now lent room = send-number c now (length lent) room
+call-number Call.Tick c now lent room = tick-number c now
+call-number Call.Close c now lent room = close-number c
 
 -- ---- DEMAND-1, CALL-KEPT: a 1xx changes no record and no lent byte
 
 abbrev Fair : Connection → Outcome → Type 0
-Fair c o = callersFault (o .answer) ≡ true → Unchanged c o
+Fair c o = callersFault (o .number) ≡ true → Unchanged c o
 
 kept-fair : (k : ℕ) (c : Connection) → Fair c (refused k c)
 kept-fair k c e = record { same-record = refl; nothing-written = refl; nothing-delivered = refl; not-released = refl }
@@ -279,18 +288,18 @@ kept-fair k c e = record { same-record = refl; nothing-written = refl; nothing-d
 other : {X : Type 0} (k : ℕ) → callersFault k ≡ false → callersFault k ≡ true → X
 other k p q = absurd (subst T (sym (sym p ∙ q)) tt)
 
-raises-fair : (c d : Connection) (k n : ℕ) → callersFault k ≡ false → Fair c (raised d k n)
+raised-fair : (c d : Connection) (k n : ℕ) → callersFault k ≡ false → Fair c (raised d k n)
 unfolding raised
-raises-fair c d k n f = both (Fair c) (leb (d .settings .limit) (d .errors + 1)) _ _ (λ _. other k f) (λ _. other k f)
+raised-fair c d k n f = both (Fair c) (leb (d .settings .limit) (d .errors + 1)) _ _ (λ _. other k f) (λ _. other k f)
 
 taken-fair : (c : Connection) (now : Count) (h : Header) (t : Tail) → Fair c (messageTaken c now h t)
 unfolding messageTaken startTaken answ1Taken answ2Taken estTaken endTaken dataTaken
 taken-fair c now h t =
-    both (Fair c) (eqb (h .kind) 1) _ _ (λ _. other 0 refl) (λ _.
-    both (Fair c) (eqb (h .kind) 2) _ _ (λ _. other 0 refl) (λ _.
-    both (Fair c) (eqb (h .kind) 3) _ _ (λ _. other 0 refl) (λ _.
-    both (Fair c) (eqb (h .kind) 4) _ _ (λ _. other 0 refl) (λ _.
-    both (Fair c) (eqb (h .kind) 5) _ _ (λ _. other 0 refl) (λ _. other 0 refl)))))
+    both (Fair c) (eqb (h .kind) offsetStart) _ _ (λ _. other 0 refl) (λ _.
+    both (Fair c) (eqb (h .kind) offsetAnsw1) _ _ (λ _. other 0 refl) (λ _.
+    both (Fair c) (eqb (h .kind) offsetAnsw2) _ _ (λ _. other 0 refl) (λ _.
+    both (Fair c) (eqb (h .kind) offsetEst) _ _ (λ _. other 0 refl) (λ _.
+    both (Fair c) (eqb (h .kind) offsetEnd) _ _ (λ _. other 0 refl) (λ _. other 0 refl)))))
 
 fault-fair : {k : ℕ} → Fault k → callersFault k ≡ false
 fault-fair f202 = refl
@@ -302,7 +311,7 @@ fault-fair f205 = refl
 fault-fair f204 = refl
 
 pub receive-refusal-changes-nothing : (c : Connection) (now : Count) (message : List ℕ) (room : ℕ)
-    → callersFault (receiveOutcome c now message room .answer) ≡ true → Unchanged c (receiveOutcome c now message room)
+    → callersFault (receiveOutcome c now message room .number) ≡ true → Unchanged c (receiveOutcome c now message room)
 unfolding refusing
 receive-refusal-changes-nothing c now message room =
     receive-by (Fair c) c now message room (λ _. kept-fair (receiveRefusal c now room) c) (λ _ _. other 207 refl)
@@ -315,36 +324,44 @@ receive-refusal-changes-nothing c now message room =
       refusing = λ _ _. other 209 refl;
       in-set-up = λ k f _. other k (fault-fair f);
       too-far = λ _. other 203 refl;
-      after-gap = λ h t _ _ _. raises-fair c (heard (clocked c now) h now) 204 (t .«data») refl;
-      raising = λ k f _ _ _. raises-fair c (clocked c now) k 0 (fault-fair f);
+      after-gap = λ h t _ _ _. raised-fair c (heard (clocked c now) h now) 204 (t .«data») refl;
+      raising = λ k f _ _ _. raised-fair c (clocked c now) k 0 (fault-fair f);
     })
 
 pub tick-refusal-changes-nothing : (c : Connection) (now : Count)
-    → callersFault (tickOutcome c now .answer) ≡ true → Unchanged c (tickOutcome c now)
+    → callersFault (tickOutcome c now .number) ≡ true → Unchanged c (tickOutcome c now)
 tick-refusal-changes-nothing c now =
     tick-by (Fair c) c now (λ _. kept-fair (tickRefusal c now) c) (λ _ _. other 207 refl) (λ _. other 0 refl)
 
-pub close-refusal-changes-nothing : (c : Connection) → callersFault (closeOutcome c .answer) ≡ true → Unchanged c (closeOutcome c)
+pub close-refusal-changes-nothing : (c : Connection) → callersFault (closeOutcome c .number) ≡ true → Unchanged c (closeOutcome c)
 unfolding closeOutcome
 close-refusal-changes-nothing c = both (Fair c) (not (eqb (closeRefusal c) 0)) _ _ (λ _. kept-fair (closeRefusal c) c) (λ _. other 0 refl)
 
 pub send-refusal-changes-nothing : (c : Connection) (now : Count) (size room : ℕ)
-    → callersFault (sendOutcome c now size room .answer) ≡ true → Unchanged c (sendOutcome c now size room)
+    → callersFault (sendOutcome c now size room .number) ≡ true → Unchanged c (sendOutcome c now size room)
 unfolding sendOutcome
 send-refusal-changes-nothing c now size room =
     both (Fair c) (not (eqb (sendRefusal c now size room) 0)) _ _ (λ _. kept-fair (sendRefusal c now size room) c) (λ _. other 0 refl)
 
-pub begin-refusal-changes-nothing : (c : Connection) (role : ℕ) (settings : Settings) (first period : ℕ) (now : Count) (room : ℕ)
-    → callersFault (beginOutcome c role settings first period now room .answer) ≡ true → Unchanged c (beginOutcome c role settings first period now room)
+pub begin-refusal-changes-nothing : (c : Connection) (g : Given) (now : Count) (room : ℕ)
+    → callersFault (beginOutcome c g now room .number) ≡ true → Unchanged c (beginOutcome c g now room)
 unfolding beginOutcome
-begin-refusal-changes-nothing c role settings first period now room =
-    both (Fair c) (not (eqb (beginRefusal c role settings room) 0)) _ _ (λ _. kept-fair (beginRefusal c role settings room) c)
-    (λ _. both (Fair c) (eqb role 0) _ _ (λ _. other 0 refl) (λ _. other 0 refl))
+begin-refusal-changes-nothing c g now room =
+    both (Fair c) (not (eqb (beginRefusal c g room) 0)) _ _ (λ _. kept-fair (beginRefusal c g room) c)
+    (λ _. both (Fair c) (eqb (g .role) initiator) _ _ (λ _. other 0 refl) (λ _. other 0 refl))
+
+pub call-refusal-changes-nothing : (call : Call) (c : Connection) (now : Count) (lent : List ℕ) (room : ℕ)
+    → callersFault (outcomeOf call c now lent room .number) ≡ true → Unchanged c (outcomeOf call c now lent room)
+call-refusal-changes-nothing (Call.Begin g) c now lent room = begin-refusal-changes-nothing c g now room
+call-refusal-changes-nothing Call.Receive c now lent room = receive-refusal-changes-nothing c now lent room
+call-refusal-changes-nothing Call.Send c now lent room = send-refusal-changes-nothing c now (length lent) room
+call-refusal-changes-nothing Call.Tick c now lent room = tick-refusal-changes-nothing c now
+call-refusal-changes-nothing Call.Close c now lent room = close-refusal-changes-nothing c
 
 -- ---- released exactly when PEER-SAYS and CALL-SAYS have it
 
 abbrev Rel : Connection → Outcome → Type 0
-Rel c o = o .released ≡ releasedBy c (o .answer)
+Rel c o = o .released ≡ releasedBy c (o .number)
 
 -- a number with which a call refuses, or none
 abbrev Refusal : Connection → ℕ → Type 0
@@ -360,10 +377,10 @@ not-open c now e = go (eqb (c .phase) responderWaitsFor1) (eqb (c .phase) opened
     go true true over e = sym e
     go false true over e = sym e
 
-raises-rel : (c d : Connection) (k n : ℕ) → d .settings ≡ c .settings → d .errors ≡ c .errors
+raised-rel : (c d : Connection) (k n : ℕ) → d .settings ≡ c .settings → d .errors ≡ c .errors
     → releasedBy c k ≡ leb (c .settings .limit) (c .errors + 1) → Rel c (raised d k n)
 unfolding raised
-raises-rel c d k n s e r =
+raised-rel c d k n s e r =
     both (Rel c) (leb (d .settings .limit) (d .errors + 1)) _ _ (λ t. sym (r ∙ same ∙ t)) (λ t. sym (r ∙ same ∙ t))
   where
     same : leb (c .settings .limit) (c .errors + 1) ≡ leb (d .settings .limit) (d .errors + 1)
@@ -372,11 +389,11 @@ raises-rel c d k n s e r =
 taken-rel : (c : Connection) (now : Count) (h : Header) (t : Tail) → Rel c (messageTaken c now h t)
 unfolding messageTaken startTaken answ1Taken answ2Taken estTaken endTaken dataTaken releasedBy
 taken-rel c now h t =
-    both (Rel c) (eqb (h .kind) 1) _ _ (λ _. refl) (λ _.
-    both (Rel c) (eqb (h .kind) 2) _ _ (λ _. refl) (λ _.
-    both (Rel c) (eqb (h .kind) 3) _ _ (λ _. refl) (λ _.
-    both (Rel c) (eqb (h .kind) 4) _ _ (λ _. refl) (λ _.
-    both (Rel c) (eqb (h .kind) 5) _ _ (λ _. refl) (λ _. refl)))))
+    both (Rel c) (eqb (h .kind) offsetStart) _ _ (λ _. refl) (λ _.
+    both (Rel c) (eqb (h .kind) offsetAnsw1) _ _ (λ _. refl) (λ _.
+    both (Rel c) (eqb (h .kind) offsetAnsw2) _ _ (λ _. refl) (λ _.
+    both (Rel c) (eqb (h .kind) offsetEst) _ _ (λ _. refl) (λ _.
+    both (Rel c) (eqb (h .kind) offsetEnd) _ _ (λ _. refl) (λ _. refl)))))
 
 set-up-rel : (c : Connection) {k : ℕ} → Fault k → eqb (c .phase) opened ≡ false → true ≡ releasedBy c k
 unfolding releasedBy
@@ -399,7 +416,7 @@ open-rel c f205 n o = simp o
 open-rel c f204 n o = simp o
 
 pub receive-released : (c : Connection) (now : Count) (message : List ℕ) (room : ℕ)
-    → receiveOutcome c now message room .released ≡ releasedBy c (receiveOutcome c now message room .answer)
+    → receiveOutcome c now message room .released ≡ releasedBy c (receiveOutcome c now message room .number)
 unfolding refusing releasedBy
 receive-released c now message room =
     receive-by (Rel c) c now message room
@@ -414,28 +431,28 @@ receive-released c now message room =
       refusing = λ h s. simp s;
       in-set-up = λ k f s. set-up-rel c f s;
       too-far = λ o. simp o;
-      after-gap = λ h t _ _ o. raises-rel c (heard (clocked c now) h now) 204 (t .«data») refl refl (open-rel c f204 refl o);
-      raising = λ k f n _ o. raises-rel c (clocked c now) k 0 refl refl (open-rel c f n o);
+      after-gap = λ h t _ _ o. raised-rel c (heard (clocked c now) h now) 204 (t .«data») refl refl (open-rel c f204 refl o);
+      raising = λ k f n _ o. raised-rel c (clocked c now) k 0 refl refl (open-rel c f n o);
     })
 
-pub tick-released : (c : Connection) (now : Count) → tickOutcome c now .released ≡ releasedBy c (tickOutcome c now .answer)
+pub tick-released : (c : Connection) (now : Count) → tickOutcome c now .released ≡ releasedBy c (tickOutcome c now .number)
 unfolding releasedBy
 tick-released c now =
     tick-by (Rel c) c now (λ _. tick-refusal-by (Refusal c) refl refl c now refl refl) (λ _ e. simp (not-open c now e)) (λ _. refl)
 
 -- CALL-SAYS: of the answers outside the peer's faults, close's 0
-pub close-released : (c : Connection) → closeOutcome c .released ≡ eqb (closeOutcome c .answer) 0
+pub close-released : (c : Connection) → closeOutcome c .released ≡ eqb (closeOutcome c .number) 0
 unfolding closeOutcome
 close-released c =
-    both (λ (o : Outcome). o .released ≡ eqb (o .answer) 0) (not (eqb (closeRefusal c) 0)) _ _ (λ e. sym (not-true (eqb (closeRefusal c) 0) e)) (λ _. refl)
+    both (λ (o : Outcome). o .released ≡ eqb (o .number) 0) (not (eqb (closeRefusal c) 0)) _ _ (λ e. sym (not-true (eqb (closeRefusal c) 0) e)) (λ _. refl)
 
-pub send-keeps : (c : Connection) (now : Count) (size room : ℕ) → sendOutcome c now size room .released ≡ false
+pub send-kept : (c : Connection) (now : Count) (size room : ℕ) → sendOutcome c now size room .released ≡ false
 unfolding sendOutcome
-send-keeps c now size room = both (λ (o : Outcome). o .released ≡ false) (not (eqb (sendRefusal c now size room) 0)) _ _ (λ _. refl) (λ _. refl)
+send-kept c now size room = both (λ (o : Outcome). o .released ≡ false) (not (eqb (sendRefusal c now size room) 0)) _ _ (λ _. refl) (λ _. refl)
 
-pub begin-keeps : (c : Connection) (role : ℕ) (settings : Settings) (first period : ℕ) (now : Count) (room : ℕ)
-    → beginOutcome c role settings first period now room .released ≡ false
+pub begin-kept : (c : Connection) (g : Given) (now : Count) (room : ℕ)
+    → beginOutcome c g now room .released ≡ false
 unfolding beginOutcome
-begin-keeps c role settings first period now room =
-    both (λ (o : Outcome). o .released ≡ false) (not (eqb (beginRefusal c role settings room) 0)) _ _ (λ _. refl)
-    (λ _. both (λ (o : Outcome). o .released ≡ false) (eqb role 0) _ _ (λ _. refl) (λ _. refl))
+begin-kept c g now room =
+    both (λ (o : Outcome). o .released ≡ false) (not (eqb (beginRefusal c g room) 0)) _ _ (λ _. refl)
+    (λ _. both (λ (o : Outcome). o .released ≡ false) (eqb (g .role) initiator) _ _ (λ _. refl) (λ _. refl))

@@ -6,19 +6,21 @@ use mathlib.Core.Bool.{Bool, true, false, not, _&&_, _||_}
 use mathlib.Core.List.{List}
 use mathlib.Core.Logic.{inl, inr}
 use borrow.Author.Tests.{lt-leb, eq-eqb}
+use lib.ListN.{length}
 use lib.Dec.{T, ltb, leb, eqb, lit<}
 use Rattle.rules.specs.Rows.{when_answer_else_}
 use Rattle.clock.specs.declared.Count.{Count}
 use Rattle.message.specs.declared.Header.{Header}
 use Rattle.message.specs.declared.Tail.{Tail}
-use Rattle.connection.specs.declared.Settings.{Settings}
 use Rattle.connection.specs.declared.Connection.{Connection}
-use Rattle.message.specs.Layout.{periodTail, dataTail}
+use Rattle.message.specs.Table.{offsetStart, offsetAnsw1, offsetAnsw2, offsetEst, offsetEnd}
+use Rattle.message.specs.Layout.{dataTail}
 use Rattle.message.specs.Read.{parsedOf}
 use Rattle.connection.specs.Connection.{
   closed,
   initiatorWaitsFor2,
   responderWaitsFor1,
+  opened,
   outOfRange,
   unsound,
   _outside_to_,
@@ -26,12 +28,13 @@ use Rattle.connection.specs.Connection.{
   clocked,
   heard,
   sent,
-  waiting,
   begun,
 }
 use Rattle.connection.proofs.Ranges.{or-off, in-range}
 use Rattle.what_follows.specs.declared.Outcome.{Outcome}
 use Rattle.what_follows.specs.Follows.{kept, sending, startTaken, answ1Taken, answ2Taken, estTaken, endTaken, dataTaken, messageTaken, refusing, raised}
+use Rattle.calls.specs.declared.Given.{Given}
+use Rattle.calls.specs.declared.Call.{Call}
 use Rattle.calls.specs.Calls.{
   bad,
   closeRefusal,
@@ -44,8 +47,11 @@ use Rattle.calls.specs.Calls.{
   closeOutcome,
   sendOutcome,
   beginOutcome,
+  outcomeOf,
   dataHeader,
-  startHeader,
+  startSent,
+  initiator,
+  responder,
 }
 use Rattle.promises.specs.Promises.{Valid, Stays}
 use Rattle.calls.proofs.Replies.{both, none-refused, row-off, then-off}
@@ -57,18 +63,18 @@ no-way e = absurd (subst T e tt)
 -- what is known of a record that is sound
 record Sound (c : Connection) : Type 0 where
   settings : outOfRange (c .settings) ≡ false
-  phase : (c .phase) outside 1 to 6 ≡ false
+  phase : (c .phase) outside initiatorWaitsFor2 to opened ≡ false
   errors : leb (c .settings .limit) (c .errors) ≡ false
   limit : 1 ≤ c .settings .limit
 
 sound-of : (c : Connection) → unsound c ≡ false → Sound c
 unfolding unsound
 sound-of c e =
-    let a = or-off (outOfRange (c .settings) || (c .phase) outside 1 to 6) (leb (c .settings .limit) (c .errors)) e in
-    let b = or-off (outOfRange (c .settings)) ((c .phase) outside 1 to 6) (a .0) in
+    let a = or-off (outOfRange (c .settings) || (c .phase) outside initiatorWaitsFor2 to opened) (leb (c .settings .limit) (c .errors)) e in
+    let b = or-off (outOfRange (c .settings)) ((c .phase) outside initiatorWaitsFor2 to opened) (a .0) in
     record { settings = b .0; phase = b .1; errors = a .1; limit = in-range (c .settings) (b .0) .limit }
 
-sound-is : (c : Connection) → outOfRange (c .settings) ≡ false → (c .phase) outside 1 to 6 ≡ false → leb (c .settings .limit) (c .errors) ≡ false
+sound-is : (c : Connection) → outOfRange (c .settings) ≡ false → (c .phase) outside initiatorWaitsFor2 to opened ≡ false → leb (c .settings .limit) (c .errors) ≡ false
     → unsound c ≡ false
 unfolding unsound
 sound-is c a b d = rw (a, b, d)
@@ -88,17 +94,17 @@ module _ (c : Connection) (s : Sound c) where
   taken-stays : (now : Count) (h : Header) (t : Tail) → Stays (messageTaken c now h t)
   unfolding messageTaken startTaken answ1Taken answ2Taken estTaken endTaken dataTaken _outside_to_
   taken-stays now h t =
-      both Stays (eqb (h .kind) 1) _ _ (λ _. goes-on refl (inr (sound-is _ (s .settings) refl (s .errors)))) (λ _.
-      both Stays (eqb (h .kind) 2) _ _ (λ _. goes-on refl (inr (sound-is _ (s .settings) refl (s .errors)))) (λ _.
-      both Stays (eqb (h .kind) 3) _ _ (λ _. goes-on refl (inr (sound-is _ (s .settings) refl (s .errors)))) (λ _.
-      both Stays (eqb (h .kind) 4) _ _ (λ _. goes-on refl (inr (sound-is _ (s .settings) refl (s .errors)))) (λ _.
-      both Stays (eqb (h .kind) 5) _ _ (λ _. goes-on refl (inr (sound-is _ (s .settings) refl (s .errors)))) (λ _.
+      both Stays (eqb (h .kind) offsetStart) _ _ (λ _. goes-on refl (inr (sound-is _ (s .settings) refl (s .errors)))) (λ _.
+      both Stays (eqb (h .kind) offsetAnsw1) _ _ (λ _. goes-on refl (inr (sound-is _ (s .settings) refl (s .errors)))) (λ _.
+      both Stays (eqb (h .kind) offsetAnsw2) _ _ (λ _. goes-on refl (inr (sound-is _ (s .settings) refl (s .errors)))) (λ _.
+      both Stays (eqb (h .kind) offsetEst) _ _ (λ _. goes-on refl (inr (sound-is _ (s .settings) refl (s .errors)))) (λ _.
+      both Stays (eqb (h .kind) offsetEnd) _ _ (λ _. goes-on refl (inr (sound-is _ (s .settings) refl (s .errors)))) (λ _.
       goes-on refl (inr (sound-is _ (s .settings) (s .phase) no-errors)))))))
 
 -- one error more, under the limit or released
-raises-stays : (d : Connection) (k n : ℕ) → Sound d → Stays (raised d k n)
+raised-stays : (d : Connection) (k n : ℕ) → Sound d → Stays (raised d k n)
 unfolding raised
-raises-stays d k n s =
+raised-stays d k n s =
     both Stays (leb (d .settings .limit) (d .errors + 1)) _ _ (λ _. gone refl refl) (λ e. goes-on refl (inr (sound-is _ (s .settings) (s .phase) e)))
 
 -- what is not refused is sound
@@ -125,8 +131,8 @@ send-sound : (c : Connection) (now : Count) (size room : ℕ) → sendRefusal c 
 unfolding sendRefusal
 send-sound c now size room e = tick-sound c now (then-off (tickRefusal c now) _ e .0)
 
-kept : (c : Connection) → Sound c → unsound c ≡ false
-kept c s = sound-is c (s .settings) (s .phase) (s .errors)
+is-sound : (c : Connection) → Sound c → unsound c ≡ false
+is-sound c s = sound-is c (s .settings) (s .phase) (s .errors)
 
 heard-sound : (c : Connection) (now : Count) (h : Header) → Sound c → Sound (heard (clocked c now) h now)
 heard-sound c now h s = record { settings = s .settings; phase = s .phase; errors = s .errors; limit = s .limit }
@@ -142,22 +148,22 @@ receive-stays c now message room v =
     leaves : Sound c → Leaves Stays c now (parsedOf message)
     leaves s =
         record {
-          malformed-open = λ _. goes-on refl (inr (kept (clocked c now) (clocked-sound c now s)));
+          malformed-open = λ _. goes-on refl (inr (is-sound (clocked c now) (clocked-sound c now s)));
           malformed-set-up = λ _. gone refl refl;
-          unexpected = λ _. goes-on refl (inr (kept (clocked c now) (clocked-sound c now s)));
+          unexpected = λ _. goes-on refl (inr (is-sound (clocked c now) (clocked-sound c now s)));
           unexpected-set-up = λ _. gone refl refl;
           taken = λ h t _ _ _. taken-stays c s now h t;
           refusing = λ _ _. gone refl refl;
           in-set-up = λ _ _ _. gone refl refl;
           too-far = λ _. gone refl refl;
-          after-gap = λ h t _ _ _. raises-stays (heard (clocked c now) h now) 204 (t .«data») (heard-sound c now h s);
-          raising = λ k _ _ _ _. raises-stays (clocked c now) k 0 (clocked-sound c now s);
+          after-gap = λ h t _ _ _. raised-stays (heard (clocked c now) h now) 204 (t .«data») (heard-sound c now h s);
+          raising = λ k _ _ _ _. raised-stays (clocked c now) k 0 (clocked-sound c now s);
         }
 
 pub tick-stays : (c : Connection) (now : Count) → Valid c → Stays (tickOutcome c now)
 tick-stays c now v =
     tick-by Stays c now (λ _. goes-on refl v) (λ _ _. gone refl refl)
-    (λ e. goes-on refl (inr (kept (clocked c now) (clocked-sound c now (tick-sound c now e)))))
+    (λ e. goes-on refl (inr (is-sound (clocked c now) (clocked-sound c now (tick-sound c now e)))))
 
 pub close-stays : (c : Connection) → Valid c → Stays (closeOutcome c)
 unfolding closeOutcome
@@ -172,27 +178,31 @@ send-stays c now size room v =
     go : Sound c → Stays (sending (dataHeader c now) (dataTail size) (sent (clocked c now)))
     go s = goes-on refl (inr (sound-is (sent (clocked c now)) (s .settings) (s .phase) (s .errors)))
 
-pub begin-stays : (c : Connection) (role : ℕ) (settings : Settings) (first period : ℕ) (now : Count) (room : ℕ) → Valid c
-    → Stays (beginOutcome c role settings first period now room)
+pub begin-stays : (c : Connection) (g : Given) (now : Count) (room : ℕ) → Valid c → Stays (beginOutcome c g now room)
 unfolding beginOutcome beginRefusal _outside_to_
-begin-stays c role settings first period now room v =
-    both Stays (not (eqb (beginRefusal c role settings room) 0)) _ _ (λ _. goes-on refl v)
-    (λ e. go (settings-in (none-refused (beginRefusal c role settings room) e)))
+begin-stays c g now room v =
+    both Stays (not (eqb (beginRefusal c g room) 0)) _ _ (λ _. goes-on refl v) (λ e. go (settings-in (none-refused (beginRefusal c g room) e)))
   where
-    settings-in : beginRefusal c role settings room ≡ 0 → outOfRange settings ≡ false
+    settings-in : beginRefusal c g room ≡ 0 → outOfRange (g .settings) ≡ false
     settings-in e =
         let a = row-off (bad c) 101 _ (lit< tt) e in
         let b = row-off (not (eqb (c .phase) closed)) 103 _ (lit< tt) (a .1) in
-        let d = row-off (ltb 1 role || outOfRange settings) 104 _ (lit< tt) (b .1) in
-        or-off (ltb 1 role) (outOfRange settings) (d .0) .1
+        let d = row-off (ltb responder (g .role) || outOfRange (g .settings)) 104 _ (lit< tt) (b .1) in
+        or-off (ltb responder (g .role)) (outOfRange (g .settings)) (d .0) .1
 
-    go : outOfRange settings ≡ false → Stays (when eqb role 0 answer
-        sending (startHeader first now) (periodTail period) (waiting (sent (begun settings initiatorWaitsFor2 first period now)) initiatorWaitsFor2 now)
-        else kept 0 0 (begun settings responderWaitsFor1 first period now))
+    go : outOfRange (g .settings) ≡ false
+        → Stays (when eqb (g .role) initiator answer startSent g now else kept 0 0 (begun (g .settings) (g .own) responderWaitsFor1 now))
     go s =
-        both Stays (eqb role 0) _ _
-        (λ _. goes-on refl (inr (sound-is _ s refl (lt-leb (settings .limit) 0 (in-range settings s .limit)))))
-        (λ _. goes-on refl (inr (sound-is _ s refl (lt-leb (settings .limit) 0 (in-range settings s .limit)))))
+        both Stays (eqb (g .role) initiator) _ _
+        (λ _. goes-on refl (inr (sound-is _ s refl (lt-leb (g .settings .limit) 0 (in-range (g .settings) s .limit)))))
+        (λ _. goes-on refl (inr (sound-is _ s refl (lt-leb (g .settings .limit) 0 (in-range (g .settings) s .limit)))))
+
+pub call-stays : (call : Call) (c : Connection) (now : Count) (lent : List ℕ) (room : ℕ) → Valid c → Stays (outcomeOf call c now lent room)
+call-stays (Call.Begin g) c now lent room = begin-stays c g now room
+call-stays Call.Receive c now lent room = receive-stays c now lent room
+call-stays Call.Send c now lent room = send-stays c now (length lent) room
+call-stays Call.Tick c now lent room = tick-stays c now
+call-stays Call.Close c now lent room = close-stays c
 
 -- a closed or valid record never has the record's 101
 pub valid-is-not-bad : (c : Connection) → Valid c → bad c ≡ false

@@ -1,4 +1,4 @@
--- How a connection opens: the set-up messages of a run of calls on one record since its begin, and the exchange that they must be (SHUT-4).
+-- How a connection opens: the set-up messages of a run of calls on one record since its last begin, and the exchange that they must be (SHUT-4).
 use Prim.Native.Nat.{ℕ, suc}
 use mathlib.Core.Path.{_≡_}
 use mathlib.Core.Bool.{not, _&&_}
@@ -7,16 +7,16 @@ use lib.Dec.{eqb}
 use lib.ListN.{length}
 use Rattle.rules.specs.Rows.{when_answer_else_}
 use Rattle.clock.specs.declared.Count.{Count}
-use Rattle.message.specs.Read.{parsedOf}
+use Rattle.message.specs.Table.{offsetStart}
 use Rattle.message.specs.declared.Header.{Header}
 use Rattle.message.specs.declared.Parsed.{Parsed}
-use Rattle.connection.specs.declared.Settings.{Settings}
 use Rattle.connection.specs.declared.Connection.{Connection}
-use Rattle.connection.specs.Connection.{opened}
+use Rattle.connection.specs.Connection.{closed, opened}
 use Rattle.what_follows.specs.declared.Reply.{Reply}
 use Rattle.what_follows.specs.declared.Reply.the-variants.{Nothing, Send}
 use Rattle.what_follows.specs.declared.Outcome.{Outcome}
-use Rattle.calls.specs.Calls.{beginOutcome, receiveOutcome, sendOutcome, tickOutcome, closeOutcome}
+use Rattle.calls.specs.declared.Call.{Call}
+use Rattle.calls.specs.Calls.{ruleOf, outcomeOf}
 
 -- the messages of set-up, the newest first: a message that was taken, then what was sent back
 abbrev pub withSent : Reply → List Header → List Header
@@ -27,26 +27,22 @@ abbrev pub withTaken : Parsed → List Header → List Header
 withTaken Parsed.Malformed log = log
 withTaken (Parsed.Whole h t) log = h ∷ log
 
--- a receive in set-up that answers 0 took the message
-unfoldable pub logAfter : Connection → List ℕ → Outcome → List Header → List Header
-logAfter c message o log =
-    when not (eqb (c .phase) opened) && eqb (o .answer) 0 answer withSent (o .reply) (withTaken (parsedOf message) log) else
+-- a begin that answers 0 begins the log; a call in set-up that answers 0 took its message, if it has one
+unfoldable pub logAfter : Call → Connection → List ℕ → Outcome → List Header → List Header
+logAfter call c lent o log =
+    when ruleOf call .begins && eqb (o .number) 0 answer withSent (o .reply) [] else
+    when not (eqb (c .phase) opened) && eqb (o .number) 0 answer withSent (o .reply) (withTaken (ruleOf call .message lent) log) else
     log
 
--- any calls in any order on one record since its begin, refusals included, each on the record that the call before left
+-- any calls in any order on one record that was closed, refusals included, each on the record that the call before left
 pub data Run : List Header → Connection → Type 0 where
-  begun : (c : Connection) (role : ℕ) (settings : Settings) (first period : ℕ) (now : Count) (room : ℕ)
-      → beginOutcome c role settings first period now room .answer ≡ 0
-      → Run (withSent (beginOutcome c role settings first period now room .reply) []) (beginOutcome c role settings first period now room .next)
-  received : {log : List Header} {c : Connection} → Run log c → (now : Count) (message : List ℕ) (room : ℕ)
-      → Run (logAfter c message (receiveOutcome c now message room) log) (receiveOutcome c now message room .next)
-  sent : {log : List Header} {c : Connection} → Run log c → (now : Count) (size room : ℕ) → Run log (sendOutcome c now size room .next)
-  ticked : {log : List Header} {c : Connection} → Run log c → (now : Count) → Run log (tickOutcome c now .next)
-  closed : {log : List Header} {c : Connection} → Run log c → Run log (closeOutcome c .next)
+  none : (c : Connection) → c .phase ≡ closed → Run [] c
+  called : {log : List Header} {c : Connection} → Run log c → (call : Call) (now : Count) (lent : List ℕ) (room : ℕ)
+      → Run (logAfter call c lent (outcomeOf call c now lent room) log) (outcomeOf call c now lent room .next)
 
 -- the exchange, the newest message first: type 1, and each one's type is the next, and it echoes the stamp of the one before (ECHO-1)
 pub data Exchange : List Header → Type 0 where
-  first : (h : Header) → h .kind ≡ 1 → Exchange (h ∷ [])
+  first : (h : Header) → h .kind ≡ offsetStart → Exchange (h ∷ [])
   next : (h g : Header) (log : List Header) → Exchange (g ∷ log) → h .kind ≡ suc (g .kind) → h .«last_peer_stamp» .0 ≡ g .stamp .0
       → Exchange (h ∷ g ∷ log)
 
