@@ -84,7 +84,7 @@ module _ (c : Connection) (now : Count) (h : Header) (t : Tail) (o : c .phase �
 
   -- ---- the answer is the fault's number
 
-  taken-answer : messageTaken c now h t .answer ≡ 0
+  taken-answer : messageTaken c now h t .number ≡ 0
   unfolding messageTaken startTaken answ1Taken answ2Taken estTaken endTaken dataTaken
   taken-answer =
       both Zero (eqb (h .kind) 1) _ _ (λ _. refl) (λ _.
@@ -94,23 +94,23 @@ module _ (c : Connection) (now : Count) (h : Header) (t : Tail) (o : c .phase �
       both Zero (eqb (h .kind) 5) _ _ (λ _. refl) (λ _. refl)))))
     where
       Zero : Outcome → Type 0
-      Zero x = x .answer ≡ 0
+      Zero x = x .number ≡ 0
 
-  raises-answer : (d : Connection) (k n : ℕ) → raised d k n .answer ≡ k
+  raised-answer : (d : Connection) (k n : ℕ) → raised d k n .number ≡ k
   unfolding raised
-  raises-answer d k n = both (λ (x : Outcome). x .answer ≡ k) (leb (d .settings .limit) (d .errors + 1)) _ _ (λ _. refl) (λ _. refl)
+  raised-answer d k n = both (λ (x : Outcome). x .number ≡ k) (leb (d .settings .limit) (d .errors + 1)) _ _ (λ _. refl) (λ _. refl)
 
-  open-answer : (k : ℕ) → openFollowsOf c now h t k .answer ≡ k
+  open-answer : (k : ℕ) → openFollowsOf c now h t k .number ≡ k
   unfolding openFollowsOf
   open-answer k =
-      both (λ (x : Outcome). x .answer ≡ k) (eqb k 203) _ _ (λ e. sym (eqb-true k 203 e)) (λ _.
-      both (λ (x : Outcome). x .answer ≡ k) (eqb k 204) _ _ (λ e. raises-answer _ 204 _ ∙ sym (eqb-true k 204 e)) (λ _. raises-answer _ k 0))
+      both (λ (x : Outcome). x .number ≡ k) (eqb k 203) _ _ (λ e. sym (eqb-true k 203 e)) (λ _.
+      both (λ (x : Outcome). x .number ≡ k) (eqb k 204) _ _ (λ e. raised-answer _ 204 _ ∙ sym (eqb-true k 204 e)) (λ _. raised-answer _ k 0))
 
-  follows-answer : (k : ℕ) → followsOf c now h t k .answer ≡ k
+  follows-answer : (k : ℕ) → followsOf c now h t k .number ≡ k
   unfolding followsOf
   follows-answer k =
-      both (λ (x : Outcome). x .answer ≡ k) (eqb k 0) _ _ (λ e. taken-answer ∙ sym (eqb-true k 0 e)) (λ _.
-      both (λ (x : Outcome). x .answer ≡ k) (eqb (c .phase) opened) _ _ (λ _. open-answer k) (λ e. absurd (eqb-false (c .phase) opened e o)))
+      both (λ (x : Outcome). x .number ≡ k) (eqb k 0) _ _ (λ e. taken-answer ∙ sym (eqb-true k 0 e)) (λ _.
+      both (λ (x : Outcome). x .number ≡ k) (eqb (c .phase) opened) _ _ (λ _. open-answer k) (λ e. absurd (eqb-false (c .phase) opened e o)))
 
   -- ---- the fault goes by the age
 
@@ -142,12 +142,12 @@ module _ (c : Connection) (now : Count) (h : Header) (t : Tail) (o : c .phase �
       fresh : eqb (ageNumber c now h) 206 ≡ false → eqb (ageNumber c now h) 205 ≡ false → verdict ≡ Fresh
       fresh f l = is-fresh verdict (rw (age-number k) at f) (rw (age-number k) at l)
 
-  met-by-age : (x : Expectation) → expectationOf (c .phase) (h .kind) ≡ x → ByAge c verdict (metOf c now h t x .answer)
+  met-by-age : (x : Expectation) → expectationOf (c .phase) (h .kind) ≡ x → ByAge c verdict (metOf c now h t x .number)
   met-by-age Expected e = subst (ByAge c verdict) (sym (follows-answer (faultOf c now h t))) (fault-by-age (is-data (expected-is (c .phase) (h .kind) e)))
   met-by-age Unexpected e = other c verdict 211 refl refl refl refl
   met-by-age Released e = other c verdict 211 refl refl refl refl
 
-  pub answer-by-age : (message : List ℕ) (room : ℕ) → parsedOf message ≡ Parsed.Whole h t → ByAge c verdict (receiveOutcome c now message room .answer)
+  pub answer-by-age : (message : List ℕ) (room : ℕ) → parsedOf message ≡ Parsed.Whole h t → ByAge c verdict (receiveOutcome c now message room .number)
   unfolding receiveOutcome stepOf
   answer-by-age message room w =
       rw w
@@ -155,7 +155,7 @@ module _ (c : Connection) (now : Count) (h : Header) (t : Tail) (o : c .phase �
       both By (expired c now) _ _ (λ _. other c verdict 207 refl refl refl refl) (λ _. met-by-age (expectationOf (c .phase) (h .kind)) refl)))
     where
       By : Outcome → Type 0
-      By x = ByAge c verdict (x .answer)
+      By x = ByAge c verdict (x .number)
 
       Refused : ℕ → Type 0
       Refused k = eqb k 0 ≡ false → ByAge c verdict k

@@ -37,7 +37,7 @@ other-delivers-none c k z g = rw (z, g) (go (eqb (c .phase) opened))
 
 module _ (c : Connection) (now : Count) (message : List ℕ) where
   abbrev Counts : Outcome → Type 0
-  Counts o = o .delivered ≡ (when deliversTo c (o .answer) answer length (dataOf message) else 0)
+  Counts o = o .delivered ≡ (when deliversTo c (o .number) answer length (dataOf message) else 0)
 
   none-but : (k : ℕ) → eqb k 0 ≡ false → eqb k 204 ≡ false → 0 ≡ (when deliversTo c k answer length (dataOf message) else 0)
   none-but k z g = rw (other-delivers-none c k z g) refl
@@ -54,9 +54,9 @@ module _ (c : Connection) (now : Count) (message : List ℕ) where
   unfolding deliversTo
   open-delivers k e o = rw (e, o)
 
-  raised : (d : Connection) (k n : ℕ) → n ≡ (when deliversTo c k answer length (dataOf message) else 0) → Counts (raised d k n)
+  raised-counted : (d : Connection) (k n : ℕ) → n ≡ (when deliversTo c k answer length (dataOf message) else 0) → Counts (raised d k n)
   unfolding raised
-  raised d k n e = both Counts (leb (d .settings .limit) (d .errors + 1)) _ _ (λ _. e) (λ _. e)
+  raised-counted d k n e = both Counts (leb (d .settings .limit) (d .errors + 1)) _ _ (λ _. e) (λ _. e)
 
   taken : (h : Header) (t : Tail) → parsedOf message ≡ Parsed.Whole h t → Expects (c .phase) (h .kind) → Counts (messageTaken c now h t)
   unfolding messageTaken startTaken answ1Taken answ2Taken estTaken endTaken dataTaken
@@ -91,10 +91,10 @@ module _ (c : Connection) (now : Count) (message : List ℕ) where
         refusing = λ h _. none-but 209 refl refl;
         in-set-up = λ k f s. in-set-up k s;
         too-far = λ _. none-but 203 refl refl;
-        after-gap = λ h t w x o. raised (heard (clocked c now) h now) 204 (t .«data») (all-with 204 (open-delivers 204 refl o) h t w
+        after-gap = λ h t w x o. raised-counted (heard (clocked c now) h now) 204 (t .«data») (all-with 204 (open-delivers 204 refl o) h t w
             (is-data c now h t (eqb-true (c .phase) opened o) (expected-is (c .phase) (h .kind) x)));
-        raising = λ k f _ n _. raised (clocked c now) k 0 (none-but k (fault-not-0 f) n);
+        raising = λ k f _ n _. raised-counted (clocked c now) k 0 (none-but k (fault-not-0 f) n);
       })
 
-  pub hands-up : (room : ℕ) → HandsUp c message (receiveOutcome c now message room .answer) (receiveOutcome c now message room .delivered)
+  pub hands-up : (room : ℕ) → HandsUp c message (receiveOutcome c now message room .number) (receiveOutcome c now message room .delivered)
   hands-up room = record { count = counted room; bytes = delivers-bytes-from-15 c now message room }

@@ -34,8 +34,8 @@ module _ (W : World) (began : W .Moment) (j role : ℕ) (settings : Settings) (l
   age-is : age ≡ ageOf (countOf (W .ours u) .0) (countOf (W .peers (m .sent)) .0) (settings .e)
       (offsetBetween (countOf (W .ours (own .ours .at))) (countOf (W .peers (W .arrived 0))) .0)
   age-is =
-      ap (λ (s : Settings). ageOf (countOf (W .ours u) .0) (h .stamp .0) (s .e) (c .min .0)) same
-      ∙ ap (λ (stamp : Count). ageOf (countOf (W .ours u) .0) (stamp .0) (settings .e) (c .min .0)) (m .stamped)
+      ap (λ (s : Settings). ageOf (countOf (W .ours u) .0) (h .stamp .0) (s .e) (c .offsets .min .0)) same
+      ∙ ap (λ (stamp : Count). ageOf (countOf (W .ours u) .0) (stamp .0) (settings .e) (c .offsets .min .0)) (m .stamped)
       ∙ ap (λ (min : Offset). ageOf (countOf (W .ours u) .0) (countOf (W .peers (m .sent)) .0) (settings .e) (min .0))
       (own .gave ∙ ap (λ (stamp : Count). offsetBetween stamp (countOf (W .peers (W .arrived 0)))) (own .stamped))
 
@@ -74,8 +74,8 @@ demand-3 W began j role settings log t c x o u next band message room h s w m =
       same-settings = k .0;
       own = k .1;
       age =
-          age-claim W began j role settings log t c (k .0) (k .1) u next band h m (receiveOutcome c (countOf (W .ours u)) message room .answer)
-          (subst (λ (s : Settings). ByAge c (verdictOf (messageAge c (countOf (W .ours u)) h) (s .«t_max»)) (receiveOutcome c (countOf (W .ours u)) message room .answer)) (k .0)
+          age-claim W began j role settings log t c (k .0) (k .1) u next band h m (receiveOutcome c (countOf (W .ours u)) message room .number)
+          (subst (λ (s : Settings). ByAge c (verdictOf (messageAge c (countOf (W .ours u)) h) (s .«t_max»)) (receiveOutcome c (countOf (W .ours u)) message room .number)) (k .0)
           (answer-by-age c (countOf (W .ours u)) h s o message room w));
       hands-up = hands-up c (countOf (W .ours u)) message room;
     }

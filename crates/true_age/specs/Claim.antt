@@ -10,6 +10,7 @@ use lib.Signed.{_≤ℤ_}
 use Rattle.rules.specs.Rows.{when_answer_else_}
 use Rattle.clock.specs.Clock.{verdictOf}
 use Rattle.clock.specs.declared.Verdict.the-variants.{Future, Late, Fresh}
+use Rattle.message.specs.Table.{offsetStart, offsetAnsw1}
 use Rattle.message.specs.Read.{parsedOf, dataOf}
 use Rattle.message.specs.declared.Header.{Header}
 use Rattle.message.specs.declared.Tail.{Tail}
@@ -19,14 +20,14 @@ use Rattle.connection.specs.declared.Connection.{Connection}
 use Rattle.connection.specs.Connection.{opened}
 use Rattle.peer_faults.specs.Faults.{messageAge}
 use Rattle.what_follows.specs.Follows.{offsetBetween}
-use Rattle.calls.specs.Calls.{receiveOutcome, deliveredOf}
+use Rattle.calls.specs.Calls.{initiator, receiveOutcome, deliveredOf}
 use Rattle.promises.specs.Promises.{deliversTo}
 use Rattle.true_age.specs.Clocks.{World, InBand, countOf}
 use Rattle.true_age.specs.History.{Ours, Written, Judged, History}
 
 -- the first message that a role writes: OffsetStart of an initiator, OffsetAnsw1 of a responder
 abbrev pub ownType : ℕ → ℕ
-ownType role = when eqb role 0 answer 1 else 2
+ownType role = when eqb role initiator answer offsetStart else offsetAnsw1
 
 -- the message of ours that gave the offset: the first that we wrote on this connection
 pub record OwnSetUp (W : World) (began : W .Moment) (role : ℕ) (log : List (Ours W)) (t : W .Moment) (c : Connection) : Type 0 where
@@ -37,7 +38,7 @@ pub record OwnSetUp (W : World) (began : W .Moment) (role : ℕ) (log : List (Ou
   pub before : W .early (ours .at) t
   pub onward : W .early (ours .at) (W .arrived 0)
   pub stamped : ours .header .stamp ≡ countOf (W .ours (ours .at))
-  pub gave : c .min ≡ offsetBetween (ours .header .stamp) (countOf (W .peers (W .arrived 0)))
+  pub gave : c .offsets .min ≡ offsetBetween (ours .header .stamp) (countOf (W .peers (W .arrived 0)))
 
 -- d: how long it took to arrive, on the peer's count
 abbrev pub transit : (W : World) → Ours W → ℕ
@@ -81,9 +82,9 @@ pub record Claim (W : World) (began : W .Moment) (j role : ℕ) (settings : Sett
   -- AGE-6: up to 2^31
   pub age : (first : Ours W) → Written W 0 first log → trueAge W (m .sent) u + settings .e + j + transit W first < 2 ^ 31
       → AgeClaim settings (trueAge W (m .sent) u) j (transit W first) (messageAge c (countOf (W .ours u)) h)
-      c (receiveOutcome c (countOf (W .ours u)) message room .answer)
+      c (receiveOutcome c (countOf (W .ours u)) message room .number)
   -- bytes go up with no other answer
-  pub hands-up : HandsUp c message (receiveOutcome c (countOf (W .ours u)) message room .answer) (receiveOutcome c (countOf (W .ours u)) message room .delivered)
+  pub hands-up : HandsUp c message (receiveOutcome c (countOf (W .ours u)) message room .number) (receiveOutcome c (countOf (W .ours u)) message room .delivered)
 
 -- DEMAND-3: the next receive gets our count as its now, at a moment no earlier than the last call; any room, and any bytes that are a message
 abbrev pub Demand3 : Type 1

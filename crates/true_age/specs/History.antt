@@ -1,12 +1,12 @@
 -- The calls on one record since its begin, in a world of two clocks, and what is supposed of the peer's messages that they take.
 use Prim.Native.Nat.{ℕ}
 use mathlib.Core.Path.{_≡_}
-use mathlib.Core.Bool.{false}
+use mathlib.Core.Bool.{true, false}
 use mathlib.Core.List.{List, [], _∷_}
 use mathlib.Core.Logic.{_⊎_}
 use lib.Dec.{eqb}
 use lib.ListN.{length}
-use Rattle.message.specs.Read.{parsedOf}
+use Rattle.message.specs.Table.{offsetAnsw1, offsetAnsw2}
 use Rattle.message.specs.declared.Header.{Header}
 use Rattle.message.specs.declared.Parsed.{Parsed}
 use Rattle.connection.specs.declared.Settings.{Settings}
@@ -14,7 +14,8 @@ use Rattle.connection.specs.declared.Connection.{Connection}
 use Rattle.connection.specs.Connection.{opened}
 use Rattle.what_follows.specs.declared.Reply.{Reply}
 use Rattle.what_follows.specs.declared.Reply.the-variants.{Nothing, Send}
-use Rattle.calls.specs.Calls.{beginOutcome, receiveOutcome, sendOutcome, tickOutcome, closeOutcome}
+use Rattle.calls.specs.declared.Call.{Call}
+use Rattle.calls.specs.Calls.{initiator, ruleOf, outcomeOf, given}
 use Rattle.true_age.specs.Clocks.{World, countOf}
 
 module _ (W : World) where
@@ -54,53 +55,32 @@ module _ (W : World) where
       -- its stamp is true
       pub stamped : h .stamp ≡ countOf (W .peers sent)
       -- and its report, which is asked of OffsetAnsw1 and OffsetAnsw2 alone
-      pub reports : (h .kind ≡ 2) ⊎ (h .kind ≡ 3) → Reports log h
+      pub reports : (h .kind ≡ offsetAnsw1) ⊎ (h .kind ≡ offsetAnsw2) → Reports log h
 
     -- the same of bytes; of bytes that are no message nothing is supposed
     abbrev pub JudgedBytes : List Ours → W .Moment → Parsed → Type 0
     JudgedBytes log taken Parsed.Malformed = Unit {0}
     JudgedBytes log taken (Parsed.Whole h t) = Judged log taken h
 
-    -- DEMAND-3: from begin on each call gets our count as its now and the record that the one before left. Any of the five calls in any order,
-    -- any bytes, sizes and rooms, refusals included. What we wrote, the moment of the last call, and the record that it left.
+    -- DEMAND-3: from begin on each call gets our count as its now and the record that the one before left. Any calls in any order, any bytes and rooms,
+    -- refusals included. What we wrote, the moment of the last call, and the record that it left.
     pub data History (role : ℕ) (settings : Settings) : List Ours → W .Moment → Connection → Type 0 where
       -- an initiator's set-up has begun when begin writes OffsetStart; a responder's may begin later, with the peer's
-      begun : (c : Connection) (first period : ℕ) (t : W .Moment) (room : ℕ)
-          → (role ≡ 0 → W .early began t)
-          → beginOutcome c role settings first period (countOf (W .ours t)) room .answer ≡ 0
+      begun : (c : Connection) (first period : ℕ) (t : W .Moment) (lent : List ℕ) (room : ℕ)
+          → (role ≡ initiator → W .early began t)
+          → outcomeOf (Call.Begin (given role settings first period)) c (countOf (W .ours t)) lent room .number ≡ 0
           → History role settings
-          (withWritten t (beginOutcome c role settings first period (countOf (W .ours t)) room .reply) [])
+          (withWritten t (outcomeOf (Call.Begin (given role settings first period)) c (countOf (W .ours t)) lent room .reply) [])
           t
-          (beginOutcome c role settings first period (countOf (W .ours t)) room .next)
-      -- the peer is truthful in what set-up takes, by a receive that answers 0. Of other bytes nothing is supposed here
-      received : {log : List Ours} {t : W .Moment} {c : Connection} → History role settings log t c
-          → (u : W .Moment) → W .early t u → (message : List ℕ) (room : ℕ)
-          → (eqb (c .phase) opened ≡ false → receiveOutcome c (countOf (W .ours u)) message room .answer ≡ 0
-          → JudgedBytes log u (parsedOf message))
+          (outcomeOf (Call.Begin (given role settings first period)) c (countOf (W .ours t)) lent room .next)
+      -- Another begin is refused: one that answers 0 begins another history. The peer is truthful in the message that set-up takes, by a call that answers 0;
+      -- of other bytes nothing is supposed here.
+      called : {log : List Ours} {t : W .Moment} {c : Connection} → History role settings log t c
+          → (u : W .Moment) → W .early t u → (call : Call) (lent : List ℕ) (room : ℕ)
+          → (ruleOf call .begins ≡ true → eqb (outcomeOf call c (countOf (W .ours u)) lent room .number) 0 ≡ false)
+          → (eqb (c .phase) opened ≡ false → outcomeOf call c (countOf (W .ours u)) lent room .number ≡ 0
+          → JudgedBytes log u (ruleOf call .message lent))
           → History role settings
-          (withWritten u (receiveOutcome c (countOf (W .ours u)) message room .reply) log)
+          (withWritten u (outcomeOf call c (countOf (W .ours u)) lent room .reply) log)
           u
-          (receiveOutcome c (countOf (W .ours u)) message room .next)
-      sent : {log : List Ours} {t : W .Moment} {c : Connection} → History role settings log t c
-          → (u : W .Moment) → W .early t u → (size room : ℕ)
-          → History role settings
-          (withWritten u (sendOutcome c (countOf (W .ours u)) size room .reply) log)
-          u
-          (sendOutcome c (countOf (W .ours u)) size room .next)
-      ticked : {log : List Ours} {t : W .Moment} {c : Connection} → History role settings log t c
-          → (u : W .Moment) → W .early t u
-          → History role settings
-          (withWritten u (tickOutcome c (countOf (W .ours u)) .reply) log)
-          u
-          (tickOutcome c (countOf (W .ours u)) .next)
-      closed : {log : List Ours} {t : W .Moment} {c : Connection} → History role settings log t c
-          → (u : W .Moment) → W .early t u
-          → History role settings (withWritten u (closeOutcome c .reply) log) u (closeOutcome c .next)
-      -- a begin that is refused; one that answers 0 begins another history
-      not-begun : {log : List Ours} {t : W .Moment} {c : Connection} → History role settings log t c
-          → (u : W .Moment) → W .early t u → (role′ : ℕ) (settings′ : Settings) (first period room : ℕ)
-          → eqb (beginOutcome c role′ settings′ first period (countOf (W .ours u)) room .answer) 0 ≡ false
-          → History role settings
-          (withWritten u (beginOutcome c role′ settings′ first period (countOf (W .ours u)) room .reply) log)
-          u
-          (beginOutcome c role′ settings′ first period (countOf (W .ours u)) room .next)
+          (outcomeOf call c (countOf (W .ours u)) lent room .next)
