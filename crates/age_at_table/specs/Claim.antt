@@ -13,9 +13,9 @@ use Rattle.connection.specs.declared.Settings.{Settings}
 use Rattle.connection.specs.declared.Connection.{Connection}
 use Rattle.connection.specs.Connection.{opened}
 use Rattle.peer_faults.specs.Faults.{messageAge}
+use Rattle.calls.specs.declared.Call.{Call}
 use Rattle.calls.specs.declared.Answer.{Answer}
-use Rattle.table.specs.Table.{recordAt}
-use Rattle.table.specs.Promises.{receive, answerTo}
+use Rattle.table.specs.Table.{recordAt, madeAt}
 use Rattle.true_age.specs.Clocks.{World, InBand, countOf}
 use Rattle.true_age.specs.History.{Ours, Written, Judged}
 use Rattle.true_age.specs.Claim.{OwnSetUp, transit, trueAge, AgeClaim, HandsUp}
@@ -25,10 +25,12 @@ use Rattle.age_at_table.specs.Run.{Run, Since}
 abbrev pub HandsUpAtTable : Type 0
 HandsUpAtTable =
     (table : List Connection) (slot : ℕ) (now : Count) (message out : List ℕ)
-    → HandsUp (recordAt table slot) message (answerTo table slot (receive now message out) .number) (answerTo table slot (receive now message out) .delivered)
+    → HandsUp (recordAt table slot) message
+    (madeAt table slot Call.Receive now message out .answer .number) (madeAt table slot Call.Receive now message out .answer .delivered)
 
 -- DEMAND-3 of one such receive with our count as its now, where a is the answer that the host gets
-pub record ClaimAtTable (W : World) (began : W .Moment) (j role : ℕ) (settings : Settings) (log : List (Ours W)) (last : W .Moment) (c : Connection)
+pub record ClaimAtTable (W : World) (began : W .Moment) (j role : ℕ) (settings : Settings)
+    (log : List (Ours W)) (last : W .Moment) (c : Connection)
     (u : W .Moment) (message : List ℕ) (a : Answer) (h : Header) (m : Judged W began log u h) : Type 0 where
   pub same-settings : c .settings ≡ settings
   pub own : OwnSetUp W began role log last c
@@ -45,6 +47,8 @@ Demand3AtTable =
     (W : World) (began : W .Moment) (j slot role : ℕ) (settings : Settings) (t : W .Moment) (table : List Connection) (run : Run W t table)
     (log : List (Ours W)) (last : W .Moment) → Since W began slot role settings t table run log last
     → recordAt table slot .phase ≡ opened
-    → (u : W .Moment) → W .early t u → InBand W began u j → (message out : List ℕ) (h : Header) (s : Tail) → parsedOf message ≡ Parsed.Whole h s
+    → (u : W .Moment) → W .early t u → InBand W began u j
+    → (message out : List ℕ) (h : Header) (s : Tail) → parsedOf message ≡ Parsed.Whole h s
     → (m : Judged W began log u h)
-    → ClaimAtTable W began j role settings log last (recordAt table slot) u message (answerTo table slot (receive (countOf (W .ours u)) message out)) h m
+    → ClaimAtTable W began j role settings log last (recordAt table slot) u message
+    (madeAt table slot Call.Receive (countOf (W .ours u)) message out .answer) h m

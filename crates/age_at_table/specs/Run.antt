@@ -1,70 +1,69 @@
 -- The calls on a table, in a world of two clocks, and those on one of its slots since its begin.
 use Prim.Native.Nat.{ℕ}
-use mathlib.Core.Path.{_≡_, refl}
-use mathlib.Core.Bool.{false}
+use mathlib.Core.Path.{_≡_}
+use mathlib.Core.Bool.{true, false}
 use mathlib.Core.List.{List, []}
 use mathlib.Core.Logic.{_≢_}
 use lib.Dec.{eqb}
 use lib.ListN.{length}
-use Rattle.message.specs.Read.{parsedOf}
 use Rattle.connection.specs.declared.Settings.{Settings}
 use Rattle.connection.specs.declared.Connection.{Connection}
 use Rattle.connection.specs.Connection.{opened}
-use Rattle.table.specs.Table.{badSlot, recordAt}
-use Rattle.table.specs.Promises.{Call, begin, receive, send, tick, close, outcomeOf, answerTo, tableThen}
+use Rattle.what_follows.specs.declared.Outcome.{Outcome}
+use Rattle.calls.specs.declared.Call.{Call}
+use Rattle.calls.specs.Calls.{initiator, ruleOf, outcomeOf, given}
+use Rattle.table.specs.Left.{LeftAt}
+use Rattle.table.specs.Table.{badSlot, recordAt, madeAt}
 use Rattle.true_age.specs.Clocks.{World, countOf}
 use Rattle.true_age.specs.History.{Ours, withWritten, JudgedBytes, History}
 
 module _ (W : World) where
-  -- the call gets our count as its now; a close has none
-  abbrev pub GetsOurCount : W .Moment → Call → Type 0
-  GetsOurCount u (begin role settings first period now out) = now ≡ countOf (W .ours u)
-  GetsOurCount u (receive now message out) = now ≡ countOf (W .ours u)
-  GetsOurCount u (send now lent out) = now ≡ countOf (W .ours u)
-  GetsOurCount u (tick now) = now ≡ countOf (W .ours u)
-  GetsOurCount u close = Unit {0}
+  -- a call on a slot that gets our count as its now: what it comes to on the slot's record, and what it leaves
+  abbrev pub comesAt : List Connection → ℕ → W .Moment → Call → List ℕ → List ℕ → Outcome
+  comesAt table slot u call lent out = outcomeOf call (recordAt table slot) (countOf (W .ours u)) lent (length out)
 
-  -- Any of the five calls in any order, on any slots of any table, bad slots and refusals included: each no earlier than the one before and on the table
-  -- that it left. The moment of the last, and the table after it.
+  abbrev pub leftAt : List Connection → ℕ → W .Moment → Call → List ℕ → List ℕ → LeftAt
+  leftAt table slot u call lent out = madeAt table slot call (countOf (W .ours u)) lent out
+
+  -- Any calls in any order, on any slots of any table, bad slots and refusals included: each no earlier than the one before, on the table
+  -- that it left and with our count as its now. The moment of the last, and the table after it.
   pub data Run : W .Moment → List Connection → Type 0 where
     none : (t : W .Moment) (table : List Connection) → Run t table
-    called : {t : W .Moment} {table : List Connection} → Run t table → (u : W .Moment) → W .early t u → (slot : ℕ) (call : Call) → GetsOurCount u call
-        → Run u (tableThen table slot call)
+    called : {t : W .Moment} {table : List Connection} → Run t table → (u : W .Moment) → W .early t u
+        → (slot : ℕ) (call : Call) (lent out : List ℕ) → Run u (leftAt table slot u call lent out .table)
 
   module _ (began : W .Moment) (slot : ℕ) where
-    -- What is supposed of a call on the slot since its begin, where it finds the record c and answers k, as `History` supposes it: of a receive that set-up
-    -- takes, its message; a begin is refused, since one that answers 0 begins another history. Of the others nothing.
-    abbrev pub Supposed : List (Ours W) → W .Moment → Connection → ℕ → Call → Type 0
-    Supposed log u c k (begin role settings first period now out) = eqb k 0 ≡ false
-    Supposed log u c k (receive now message out) = eqb (c .phase) opened ≡ false → k ≡ 0 → JudgedBytes W began log u (parsedOf message)
-    Supposed log u c k (send now lent out) = Unit {0}
-    Supposed log u c k (tick now) = Unit {0}
-    Supposed log u c k close = Unit {0}
-
-    -- The slot's last begin that answered 0, and the calls on it since, among the calls of a run: what they wrote on this connection, and the moment of the
-    -- last of them. Of calls on other slots, and before that begin, nothing is supposed.
-    pub data Since (role : ℕ) (settings : Settings) : (t : W .Moment) → (table : List Connection) → Run t table → List (Ours W) → W .Moment → Type 0 where
-      begun : {t : W .Moment} {table : List Connection} (run : Run t table) (u : W .Moment) (next : W .early t u) (first period : ℕ) (out : List ℕ)
-          → (role ≡ 0 → W .early began u)
-          → answerTo table slot (begin role settings first period (countOf (W .ours u)) out) .number ≡ 0
+    -- The slot's last begin that answered 0, and the calls on it since, among the calls of a run: what they wrote on this connection, and
+    -- the moment of the last of them. Of these calls it is supposed what `History` supposes; of calls on other slots, and before that
+    -- begin, nothing.
+    pub data Since (role : ℕ) (settings : Settings)
+        : (t : W .Moment) → (table : List Connection) → Run t table → List (Ours W) → W .Moment → Type 0 where
+      begun : {t : W .Moment} {table : List Connection} (run : Run t table) (u : W .Moment) (next : W .early t u)
+          (first period : ℕ) (lent out : List ℕ)
+          → (role ≡ initiator → W .early began u)
+          → leftAt table slot u (Call.Begin (given role settings first period)) lent out .answer .number ≡ 0
           → Since role settings
           u
-          (tableThen table slot (begin role settings first period (countOf (W .ours u)) out))
-          (called run u next slot (begin role settings first period (countOf (W .ours u)) out) refl)
-          (withWritten W u (outcomeOf (begin role settings first period (countOf (W .ours u)) out) (recordAt table slot) .reply) [])
+          (leftAt table slot u (Call.Begin (given role settings first period)) lent out .table)
+          (called run u next slot (Call.Begin (given role settings first period)) lent out)
+          (withWritten W u (comesAt table slot u (Call.Begin (given role settings first period)) lent out .reply) [])
           u
-      on-slot : {t : W .Moment} {table : List Connection} {run : Run t table} {log : List (Ours W)} {last : W .Moment} → Since role settings t table run log last
-          → (u : W .Moment) (next : W .early t u) (call : Call) (gets : GetsOurCount u call)
-          → Supposed log u (recordAt table slot) (answerTo table slot call .number) call
+      on-slot : {t : W .Moment} {table : List Connection} {run : Run t table} {log : List (Ours W)} {last : W .Moment}
+          → Since role settings t table run log last
+          → (u : W .Moment) (next : W .early t u) (call : Call) (lent out : List ℕ)
+          → (ruleOf call .begins ≡ true → eqb (leftAt table slot u call lent out .answer .number) 0 ≡ false)
+          → (eqb (recordAt table slot .phase) opened ≡ false → leftAt table slot u call lent out .answer .number ≡ 0
+          → JudgedBytes W began log u (ruleOf call .message lent))
           → Since role settings
           u
-          (tableThen table slot call)
-          (called run u next slot call gets)
-          (withWritten W u (outcomeOf call (recordAt table slot) .reply) log)
+          (leftAt table slot u call lent out .table)
+          (called run u next slot call lent out)
+          (withWritten W u (comesAt table slot u call lent out .reply) log)
           u
-      on-another : {t : W .Moment} {table : List Connection} {run : Run t table} {log : List (Ours W)} {last : W .Moment} → Since role settings t table run log last
-          → (u : W .Moment) (next : W .early t u) (other : ℕ) → other ≢ slot → (call : Call) (gets : GetsOurCount u call)
-          → Since role settings u (tableThen table other call) (called run u next other call gets) log last
+      on-another : {t : W .Moment} {table : List Connection} {run : Run t table} {log : List (Ours W)} {last : W .Moment}
+          → Since role settings t table run log last
+          → (u : W .Moment) (next : W .early t u) (other : ℕ) → other ≢ slot → (call : Call) (lent out : List ℕ)
+          → Since role settings u (leftAt table other u call lent out .table) (called run u next other call lent out) log last
 
 -- a slot's calls since its begin are a history of its record: the slot is one of the table's, and its last call is no later than the run's
 pub record SlotHistory (W : World) (began : W .Moment) (slot role : ℕ) (settings : Settings) (t : W .Moment) (table : List Connection)
@@ -73,6 +72,7 @@ pub record SlotHistory (W : World) (began : W .Moment) (slot role : ℕ) (settin
   pub last-before : W .early last t
   pub history : History W began role settings log last (recordAt table slot)
 
+-- DEMAND-3: of every slot and run
 abbrev pub SlotsAreHistories : Type 1
 SlotsAreHistories =
     (W : World) (began : W .Moment) (slot role : ℕ) (settings : Settings) (t : W .Moment) (table : List Connection) (run : Run W t table)

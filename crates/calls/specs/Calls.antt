@@ -134,7 +134,8 @@ closeOutcome c =
 
 -- SEND-1: the remembered peer stamp and its arrival
 abbrev pub dataHeader : Connection → Count → Header
-dataHeader c now = record { kind = application; number = c .own .number; stamp = now; «last_peer_stamp» = c .peer .stamp; arrival = c .peer .arrival }
+dataHeader c now =
+    record { kind = application; number = c .own .number; stamp = now; «last_peer_stamp» = c .peer .stamp; arrival = c .peer .arrival }
 
 -- NUMBER-1: the own number goes on by one
 unfoldable pub sendOutcome : Connection → Count → ℕ → ℕ → Outcome
@@ -183,8 +184,8 @@ peersFaults = 207 ∷ 201 ∷ 211 ∷ 202 ∷ 203 ∷ 208 ∷ 209 ∷ 206 ∷ 20
 
 -- ---- any call
 
--- A call's rule: what it comes to on a record with a now, the bytes that it is lent and the room of its out buffer; the message that it judges, of the bytes
--- lent; whether it begins a connection; and the numbers that it answers.
+-- A call's rule: what it comes to on a record with a now, the bytes that it is lent and the room of its out buffer; the message that it
+-- judges, of the bytes lent; whether it begins a connection; and the numbers that it answers.
 pub record Rule : Type 0 where
   pub outcome : Connection → Count → List ℕ → ℕ → Outcome
   pub message : List ℕ → Parsed

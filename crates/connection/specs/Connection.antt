@@ -117,14 +117,18 @@ abbrev pub counted : Connection → ℕ → Connection
 counted c errors = made (c .phase) (c .settings) (c .own) (c .peer) (c .«wait_start») (c .offsets) errors (c .clock)
 
 -- ERR-6: the last number, the remembered peer stamp and its arrival
+abbrev pub heardOf : Header → Count → Peer
+heardOf h now = record { number = h .number; stamp = h .stamp; arrival = now }
+
 abbrev pub heard : Connection → Header → Count → Connection
-heard c h now =
-    made (c .phase) (c .settings) (c .own) (record { number = h .number; stamp = h .stamp; arrival = now }) (c .«wait_start») (c .offsets) (c .errors) (c .clock)
+heard c h now = made (c .phase) (c .settings) (c .own) (heardOf h now) (c .«wait_start») (c .offsets) (c .errors) (c .clock)
 
 -- NUMBER-1: one message more was sent
+abbrev pub oneMore : Own → Own
+oneMore own = record { number = nextOf (own .number); period = own .period }
+
 abbrev pub sent : Connection → Connection
-sent c =
-    made (c .phase) (c .settings) (record { number = nextOf (c .own .number); period = c .own .period }) (c .peer) (c .«wait_start») (c .offsets) (c .errors) (c .clock)
+sent c = made (c .phase) (c .settings) (oneMore (c .own)) (c .peer) (c .«wait_start») (c .offsets) (c .errors) (c .clock)
 
 -- WAIT-1: a phase, and the now of the send that began its wait
 abbrev pub waiting : Connection → ℕ → Count → Connection
@@ -132,8 +136,10 @@ waiting c phase since = made phase (c .settings) (c .own) (c .peer) since (c .of
 
 -- OFFSET-2, OFFSET-3: the offsets of set-up
 abbrev pub withOffsets : Connection → Offset → Offset → Connection
-withOffsets c min max = made (c .phase) (c .settings) (c .own) (c .peer) (c .«wait_start») (record { min = min; max = max }) (c .errors) (c .clock)
+withOffsets c min max =
+    made (c .phase) (c .settings) (c .own) (c .peer) (c .«wait_start») (record { min = min; max = max }) (c .errors) (c .clock)
 
--- the record of begin, before anything was sent: every field anew (RECORD-2), any first number and period (RANGE-FREE), begin's now (KIND-5), no wait (WAIT-3)
+-- the record of begin, before anything was sent: every field anew (RECORD-2), any first number and period (RANGE-FREE), begin's now
+-- (KIND-5), no wait (WAIT-3)
 abbrev pub begun : Settings → Own → ℕ → Count → Connection
 begun settings own phase now = clocked (waiting (configured allZero settings own) phase noCount) now

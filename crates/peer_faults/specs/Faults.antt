@@ -12,7 +12,14 @@ use Rattle.message.specs.Table.{offsetStart, offsetAnsw1, offsetAnsw2, offsetEs
 use Rattle.message.specs.declared.Header.{Header}
 use Rattle.message.specs.declared.Tail.{Tail}
 use Rattle.connection.specs.declared.Connection.{Connection}
-use Rattle.connection.specs.Connection.{initiatorWaitsFor2, initiatorWaitsFor4, responderWaitsFor1, responderWaitsFor3, responderWaitsFor5, opened}
+use Rattle.connection.specs.Connection.{
+  initiatorWaitsFor2,
+  initiatorWaitsFor4,
+  responderWaitsFor1,
+  responderWaitsFor3,
+  responderWaitsFor5,
+  opened,
+}
 use Rattle.peer_faults.specs.declared.Expectation.{Expectation}
 use Rattle.peer_faults.specs.declared.Expectation.the-variants.{Expected, Unexpected, Released}
 
@@ -73,8 +80,8 @@ ageNumber c now h =
     when eqb (h .kind) application answer verdictNumber (verdictOf (messageAge c now h) (c .settings .«t_max»)) else
     0
 
--- PEER-ORDER from 202 on, of a message that is expected; 0 where there is no fault. In set-up the same rows judge (PEER-SETUP). The number comes
--- before the age (SLIP-3), and d is taken mod 65536 (SLIP-2).
+-- PEER-ORDER from 202 on, of a message that is expected; 0 where there is no fault. In set-up the same rows judge (PEER-SETUP). The number
+-- comes before the age (SLIP-3), and d is taken mod 65536 (SLIP-2).
 unfoldable pub faultOf : Connection → Count → Header → Tail → ℕ
 faultOf c now h t =
     when notAhead (h .kind) (distanceOf (h .number) (c .peer .number)) answer 202 else

@@ -1,4 +1,5 @@
--- How a connection opens: the set-up messages of a run of calls on one record since its last begin, and the exchange that they must be (SHUT-4).
+-- How a connection opens: the set-up messages of a run of calls on one record since its last begin, and the exchange that they must be
+-- (SHUT-4).
 use Prim.Native.Nat.{ℕ, suc}
 use mathlib.Core.Path.{_≡_}
 use mathlib.Core.Bool.{not, _&&_}

@@ -28,8 +28,8 @@ pub record Unchanged (c : Connection) (o : Outcome) : Type 0 where
   pub nothing-delivered : o .delivered ≡ 0
   pub not-released : o .released ≡ false
 
--- PEER-SAYS, CALL-SAYS: whether a receive or a tick that answers k to this record releases it. Set-up's errors do (SETUP-ERR); when open 203 does
--- (PEER-203), 201 and 211 don't (PEER-OPEN), and 202, 204, 205 and 206 do where they reach the limit (ERR-2).
+-- PEER-SAYS, CALL-SAYS: whether a receive or a tick that answers k to this record releases it. Set-up's errors do (SETUP-ERR); when open
+-- 203 does (PEER-203), 201 and 211 don't (PEER-OPEN), and 202, 204, 205 and 206 do where they reach the limit (ERR-2).
 unfoldable pub releasedBy : Connection → ℕ → Bool
 releasedBy c k =
     when eqb k 0 || callersFault k answer false else

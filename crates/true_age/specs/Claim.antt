@@ -67,13 +67,14 @@ pub record AgeClaim (settings : Settings) (true-age j d : ℕ) (age : ℤ) (c : 
   -- where 206 can be given
   pub future : k ≡ 206 → true-age + settings .e + d < j
 
--- What the caller gets of a message that the record c answers with k and so many delivered bytes: with a 0 or a 204 of an open record all its bytes from
--- 15 on, with any other answer none.
+-- What the caller gets of a message that the record c answers with k and so many delivered bytes: with a 0 or a 204 of an open record all
+-- its bytes from 15 on, with any other answer none.
 pub record HandsUp (c : Connection) (message : List ℕ) (k delivered : ℕ) : Type 0 where
   pub count : delivered ≡ (when deliversTo c k answer length (dataOf message) else 0)
   pub bytes : deliveredOf message delivered ≡ (when deliversTo c k answer dataOf message else [])
 
--- DEMAND-3, of the next receive on an open record, at a moment u: m is what is supposed of its message. OPEN-3: the age is the one by which receive judges
+-- DEMAND-3, of the next receive on an open record, at a moment u: m is what is supposed of its message. OPEN-3: the age is the one by which
+-- receive judges
 pub record Claim (W : World) (began : W .Moment) (j role : ℕ) (settings : Settings) (log : List (Ours W)) (t : W .Moment) (c : Connection)
     (u : W .Moment) (message : List ℕ) (room : ℕ) (h : Header) (m : Judged W began log u h) : Type 0 where
   -- E and T_max are the ones configured at begin
@@ -84,12 +85,16 @@ pub record Claim (W : World) (began : W .Moment) (j role : ℕ) (settings : Sett
       → AgeClaim settings (trueAge W (m .sent) u) j (transit W first) (messageAge c (countOf (W .ours u)) h)
       c (receiveOutcome c (countOf (W .ours u)) message room .number)
   -- bytes go up with no other answer
-  pub hands-up : HandsUp c message (receiveOutcome c (countOf (W .ours u)) message room .number) (receiveOutcome c (countOf (W .ours u)) message room .delivered)
+  pub hands-up : HandsUp c message
+      (receiveOutcome c (countOf (W .ours u)) message room .number) (receiveOutcome c (countOf (W .ours u)) message room .delivered)
 
--- DEMAND-3: the next receive gets our count as its now, at a moment no earlier than the last call; any room, and any bytes that are a message
+-- DEMAND-3: the next receive gets our count as its now, at a moment no earlier than the last call; any room, and any bytes that are a
+-- message
 abbrev pub Demand3 : Type 1
 Demand3 =
-    (W : World) (began : W .Moment) (j role : ℕ) (settings : Settings) (log : List (Ours W)) (t : W .Moment) (c : Connection) → History W began role settings log t c
+    (W : World) (began : W .Moment) (j role : ℕ) (settings : Settings) (log : List (Ours W)) (t : W .Moment) (c : Connection)
+    → History W began role settings log t c
     → c .phase ≡ opened
-    → (u : W .Moment) → W .early t u → InBand W began u j → (message : List ℕ) (room : ℕ) (h : Header) (s : Tail) → parsedOf message ≡ Parsed.Whole h s
+    → (u : W .Moment) → W .early t u → InBand W began u j
+    → (message : List ℕ) (room : ℕ) (h : Header) (s : Tail) → parsedOf message ≡ Parsed.Whole h s
     → (m : Judged W began log u h) → Claim W began j role settings log t c u message room h m

@@ -62,8 +62,8 @@ module _ (W : World) where
     JudgedBytes log taken Parsed.Malformed = Unit {0}
     JudgedBytes log taken (Parsed.Whole h t) = Judged log taken h
 
-    -- DEMAND-3: from begin on each call gets our count as its now and the record that the one before left. Any calls in any order, any bytes and rooms,
-    -- refusals included. What we wrote, the moment of the last call, and the record that it left.
+    -- DEMAND-3: from begin on each call gets our count as its now and the record that the one before left. Any calls in any order, any
+    -- bytes and rooms, refusals included. What we wrote, the moment of the last call, and the record that it left.
     pub data History (role : ℕ) (settings : Settings) : List Ours → W .Moment → Connection → Type 0 where
       -- an initiator's set-up has begun when begin writes OffsetStart; a responder's may begin later, with the peer's
       begun : (c : Connection) (first period : ℕ) (t : W .Moment) (lent : List ℕ) (room : ℕ)
@@ -73,8 +73,8 @@ module _ (W : World) where
           (withWritten t (outcomeOf (Call.Begin (given role settings first period)) c (countOf (W .ours t)) lent room .reply) [])
           t
           (outcomeOf (Call.Begin (given role settings first period)) c (countOf (W .ours t)) lent room .next)
-      -- Another begin is refused: one that answers 0 begins another history. The peer is truthful in the message that set-up takes, by a call that answers 0;
-      -- of other bytes nothing is supposed here.
+      -- Another begin is refused: one that answers 0 begins another history. The peer is truthful in the message that set-up takes, by a
+      -- call that answers 0; of other bytes nothing is supposed here.
       called : {log : List Ours} {t : W .Moment} {c : Connection} → History role settings log t c
           → (u : W .Moment) → W .early t u → (call : Call) (lent : List ℕ) (room : ℕ)
           → (ruleOf call .begins ≡ true → eqb (outcomeOf call c (countOf (W .ours u)) lent room .number) 0 ≡ false)

@@ -13,7 +13,20 @@ use Rattle.message.specs.declared.Header.{Header}
 use Rattle.message.specs.declared.Tail.{Tail}
 use Rattle.message.specs.declared.Parsed.{Parsed}
 use Rattle.connection.specs.declared.Connection.{Connection}
-use Rattle.connection.specs.Connection.{initiatorWaitsFor4, responderWaitsFor3, responderWaitsFor5, opened, noCount, allZero, clocked, counted, heard, sent, waiting, withOffsets}
+use Rattle.connection.specs.Connection.{
+  initiatorWaitsFor4,
+  responderWaitsFor3,
+  responderWaitsFor5,
+  opened,
+  noCount,
+  allZero,
+  clocked,
+  counted,
+  heard,
+  sent,
+  waiting,
+  withOffsets,
+}
 use Rattle.peer_faults.specs.declared.Expectation.{Expectation}
 use Rattle.peer_faults.specs.declared.Expectation.the-variants.{Expected, Unexpected, Released}
 use Rattle.peer_faults.specs.Faults.{expectationOf, faultOf}
@@ -119,7 +132,8 @@ raised c k delivered =
     when leb (c .settings .limit) (c .errors + 1) answer released k delivered else
     kept k delivered (counted c (c .errors + 1))
 
--- when open: PEER-203; PEER-204, which is delivered (ERR-3) and remembered (ERR-6); 202, 205 and 206, which are not (ERR-5); ERR-1 of all but 203
+-- when open: PEER-203; PEER-204, which is delivered (ERR-3) and remembered (ERR-6); 202, 205 and 206, which are not (ERR-5); ERR-1 of all
+-- but 203
 unfoldable pub openFollowsOf : Connection → Count → Header → Tail → ℕ → Outcome
 openFollowsOf c now h t fault =
     when eqb fault 203 answer released 203 0 else
