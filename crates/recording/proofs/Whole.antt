@@ -9,10 +9,9 @@ use native.Mathlib.Omega.{arith}
 use lib.ListN.{length, take, drop, length-drop}
 use lib.Seq.{length-take-le, drop-drop, drop-append-le}
 use Rattle.rules.specs.Rows.{when_answer_else_}
-use Rattle.window.specs.Window.{Within, leftOf, unread, lowOf, usedOf}
+use Rattle.window.specs.Window.{Within, leftOf, unread, lowOf, usedOf, wasRead}
 use Rattle.window.specs.declared.Window.{Window}
-use Rattle.window.specs.declared.Refilled.{Refilled}
-use Rattle.window.proofs.Unread.{part, length-unread, unread-used, enough-or-ended, unread-refilled, refilled-not-low}
+use Rattle.window.proofs.Unread.{part, length-unread, unread-used, enough-or-ended, unread-refilled}
 use Rattle.links.specs.Promises.{mostBytes, seenFrom, placeless}
 use Rattle.links.specs.declared.State.{State}
 use Rattle.links.specs.declared.Taken.{Taken}
@@ -20,7 +19,7 @@ use Rattle.links.proofs.Alike.{sees-no-more-than-a-packet, buffer-seen-as-file}
 use Rattle.recording.specs.Printed.{heading, lineOf, endOf}
 use Rattle.recording.specs.Progress.{takenAt, lastAnswer, countedOf, steppedOf, Lies}
 use Rattle.recording.specs.Cut.{Reach, reachedBy, stepFrom, cutFrom, cutOf, startFrom}
-use Rattle.recording.specs.Whole.{Follows, reachOf, reached, StepsAsWhole, wasRead, Reads, ReadsFollow, RefillNotLow, startOf, Cuts, PiecesAsWhole}
+use Rattle.recording.specs.Whole.{Follows, reachOf, reached, StepsAsWhole, Reads, ReadsFollow, Cuts, PiecesAsWhole}
 use Rattle.recording.specs.Whole.Reads.{stays, refills}
 use Rattle.recording.specs.Whole.Cuts.{starts, reads, steps}
 use Rattle.recording.specs.declared.Progress.{Progress}
@@ -98,10 +97,6 @@ reads-within : (buffer : List ℕ) (w : Window) (toRead after : List ℕ) (v : W
     → Within v (length after)
 reads-within buffer w toRead _ _ _ lies stays = lies
 reads-within buffer w toRead _ _ _ lies (refills after r refilled size rest more ended) = (omega (arith, refilled .front), omega (arith, refilled .within, size))
-
-module _ (before : List ℕ) (w : Window) (afterwards : List ℕ) (r : Refilled) where
-  pub refill-not-low : RefillNotLow before w afterwards r
-  refill-not-low refilled room ok = refilled-not-low before w afterwards r refilled mostBytes room ok
 
 -- A progress from which the rest of a text is printed: its windows follow the files from two places, and what is printed from there on, or after the last step
 -- the last line, is all that is left of the text.

@@ -24,7 +24,8 @@ pub record Reach : Type 0 where
 abbrev pub startFrom : State → Reach
 startFrom state = record { normal = 0; redundant = 0; state = state; handedUp = 0 }
 
--- the reach after a step: the place of the link that it names moves on by the bytes used, and one packet more is counted where one is handed up
+-- the reach after a step: the place of the link that it names moves on by the bytes used, and one packet more is counted where one is
+-- handed up
 abbrev pub reachedBy : Taken → Reach → Reach
 reachedBy taken x = record {
   normal = cond (taken .normal) (x .normal + taken .used) (x .normal);

@@ -4,7 +4,7 @@ use Prim.Native.Nat.{ℕ, _+_, _*_}
 use mathlib.Core.Bool.{Bool, cond}
 use mathlib.Core.List.{List, _++_}
 use Rattle.text.specs.Ascii.{ascii}
-use Rattle.text.specs.Text.{mostDigits, decimalOf}
+use Rattle.text.specs.Line.{numberWord, mostNumber}
 use Rattle.links.specs.declared.Taken.{Taken}
 
 abbrev pub heading : List ℕ
@@ -14,24 +14,26 @@ heading = ascii "link answer used type number data\n"
 abbrev pub linkName : Bool → List ℕ
 linkName normal = cond normal (ascii "normal") (ascii "redundant")
 
--- a number after a space
-abbrev pub numberText : ℕ → List ℕ
-numberText n = ascii " " ++ decimalOf n
-
 -- type, number and count of user data bytes of what is handed up
 abbrev pub handedUpText : ℕ → ℕ → ℕ → List ℕ
-handedUpText kind number size = numberText kind ++ numberText number ++ numberText size ++ ascii "\n"
+handedUpText kind number size = numberWord kind ++ numberWord number ++ numberWord size ++ ascii "\n"
 
 -- link answer used type number data
 abbrev pub lineOf : Taken → List ℕ
 lineOf taken =
-    linkName (taken .normal) ++ numberText (taken .answer) ++ numberText (taken .used)
+    linkName (taken .normal) ++ numberWord (taken .answer) ++ numberWord (taken .used)
     ++ handedUpText (taken .kind) (taken .number) (taken .size)
 
 -- the last line counts the packets handed up
 abbrev pub endOf : ℕ → List ℕ
-endOf count = ascii "end" ++ numberText count ++ ascii "\n"
+endOf count = ascii "end" ++ numberWord count ++ ascii "\n"
 
--- the most bytes of a line: nine of the link's name, five numbers with their spaces, and its end
+-- the most bytes of a link's name; of three numbers and the end of the line; and of a line: a link's name, two numbers, and those
+abbrev pub mostLinkName : ℕ
+mostLinkName = 9
+
+abbrev pub mostHandedUp : ℕ
+mostHandedUp = 3 * mostNumber + 1
+
 abbrev pub mostLine : ℕ
-mostLine = 9 + 5 * (1 + mostDigits) + 1
+mostLine = mostLinkName + 2 * mostNumber + mostHandedUp

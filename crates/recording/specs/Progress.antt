@@ -6,13 +6,29 @@ use mathlib.Core.Bool.{Bool, true, false, cond, _||_}
 use mathlib.Core.List.{List}
 use lib.Dec.{eqb}
 use lib.ListN.{take}
-use Rattle.window.specs.Window.{Within, usedOf}
+use Rattle.window.specs.declared.Window.{Window}
+use Rattle.window.specs.Window.{emptyWindow, Within, usedOf}
 use Rattle.links.specs.Table.{takenOf}
+use Rattle.links.specs.declared.State.{State}
 use Rattle.links.specs.declared.Taken.{Taken}
 use Rattle.text.specs.Text.{PutAt}
 use Rattle.recording.specs.Printed.{lineOf}
 use Rattle.recording.specs.declared.Progress.{Progress}
 use Rattle.recording.specs.declared.Advanced.{Advanced}
+
+-- before the first step both windows are empty, and nothing was handed up
+abbrev pub startOf : State → Progress
+startOf state = record { normal = emptyWindow; redundant = emptyWindow; state = state; «handed_up» = 0; last = false }
+
+-- the same progress with other windows
+abbrev pub windowed : Window → Window → Progress → Progress
+windowed normal redundant p = record {
+  normal = normal;
+  redundant = redundant;
+  state = p .state;
+  «handed_up» = p .«handed_up»;
+  last = p .last;
+}
 
 -- what one step takes of the two windows
 abbrev pub takenAt : List ℕ → List ℕ → Progress → Taken
@@ -40,7 +56,8 @@ steppedOf taken p = record {
 -- a step uses no more of the link it names than its window has
 abbrev pub UsesNoMore : Taken → Progress → Type 0
 UsesNoMore taken p =
-    (taken .normal ≡ true → p .normal .from + taken .used ≤ p .normal .to) × (taken .normal ≡ false → p .redundant .from + taken .used ≤ p .redundant .to)
+    (taken .normal ≡ true → p .normal .from + taken .used ≤ p .normal .to)
+    × (taken .normal ≡ false → p .redundant .from + taken .used ≤ p .redundant .to)
 
 -- the windows lie within their buffers
 abbrev pub Lies : Progress → ℕ → ℕ → Type 0

@@ -1,26 +1,25 @@
--- CUT-3, the promise of the windows: however two files are read into their windows, what is printed is what `cut` prints for the whole files.
+-- CUT-3, the promise of the windows: however two files are read into them, what is printed is what `cut` prints for the whole files.
 -- Assumes nothing.
-use Prim.Native.Nat.{ℕ, _-_, _≤_}
+use Prim.Native.Nat.{ℕ}
 use mathlib.Core.Path.{_≡_}
 use mathlib.Core.Bool.{true, false}
 use mathlib.Core.List.{List, [], _++_}
-use lib.Dec.{ltb}
 use lib.ListN.{length, take, drop}
-use Rattle.rules.specs.Rows.{when_answer_else_}
-use Rattle.window.specs.Window.{emptyWindow, leftOf, unread, lowOf, RefilledFrom}
+use Rattle.text.specs.Text.{placeOf}
+use Rattle.window.specs.Window.{unread, lowOf, RefilledFrom, wasRead, ToppedUp}
 use Rattle.window.specs.declared.Window.{Window}
 use Rattle.window.specs.declared.Refilled.{Refilled}
 use Rattle.links.specs.Promises.{mostBytes}
 use Rattle.links.specs.declared.State.{State}
 use Rattle.links.specs.declared.Taken.{Taken}
 use Rattle.recording.specs.Printed.{heading, lineOf, endOf, mostLine}
-use Rattle.recording.specs.Progress.{takenAt, lastAnswer, steppedOf, Lies, AdvancedTo}
+use Rattle.recording.specs.Progress.{startOf, windowed, takenAt, lastAnswer, steppedOf, Lies, AdvancedTo}
 use Rattle.recording.specs.Cut.{Reach, reachedBy, stepFrom, cutOf}
 use Rattle.recording.specs.declared.Progress.{Progress}
 use Rattle.recording.specs.declared.Advanced.{Advanced}
 
--- A window follows a file from a place: its unread bytes are the file's next ones, behind them come those that are still to be read, and where the file has
--- ended there are none of these.
+-- A window follows a file from a place: its unread bytes are the file's next ones, behind them come those that are still to be read, and
+-- where the file has ended there are none of these.
 pub record Follows (file : List ℕ) (place : ℕ) (buffer : List ℕ) (w : Window) (toRead : List ℕ) : Type 0 where
   pub next : drop place file ≡ unread buffer w ++ toRead
   pub all : w .ended ≡ true → toRead ≡ []
@@ -29,7 +28,8 @@ pub record Follows (file : List ℕ) (place : ℕ) (buffer : List ℕ) (w : Wind
 abbrev pub reachOf : ℕ → ℕ → Progress → Reach
 reachOf normal redundant p = record { normal = normal; redundant = redundant; state = p .state; handedUp = p .«handed_up» }
 
-module _ (normalFile : List ℕ) (normalPlace : ℕ) (redundantFile : List ℕ) (redundantPlace : ℕ) (normal redundant : List ℕ) (p : Progress) where
+module _ (normalFile : List ℕ) (normalPlace : ℕ) (redundantFile : List ℕ) (redundantPlace : ℕ) (normal redundant : List ℕ)
+    (p : Progress) where
   -- the step over the whole files, and the reach after it
   abbrev pub whole : Taken
   whole = stepFrom normalFile redundantFile (reachOf normalPlace redundantPlace p)
@@ -41,24 +41,22 @@ module _ (normalFile : List ℕ) (normalPlace : ℕ) (redundantFile : List ℕ) 
   abbrev pub after : Progress
   after = steppedOf (takenAt normal redundant p) p
 
-  -- Windows that follow two files and are not low: the line of their step is that of the step over the whole files, and so are the progress after it and
-  -- the places from which the windows follow the files then.
+  -- Windows that follow two files and are not low: the line of their step is that of the step over the whole files, and so are the progress
+  -- after it and the places from which the windows follow the files then.
   abbrev pub StepsAsWhole : Type 0
   StepsAsWhole =
       (normalToRead redundantToRead : List ℕ) → Lies p (length normal) (length redundant)
-      → Follows normalFile normalPlace normal (p .normal) normalToRead → Follows redundantFile redundantPlace redundant (p .redundant) redundantToRead
+      → Follows normalFile normalPlace normal (p .normal) normalToRead
+      → Follows redundantFile redundantPlace redundant (p .redundant) redundantToRead
       → lowOf mostBytes (p .normal) ≡ false → lowOf mostBytes (p .redundant) ≡ false
       → (lineOf (takenAt normal redundant p) ≡ lineOf whole) × (after .last ≡ lastAnswer (whole .answer))
       × (reachOf (reached .normal) (reached .redundant) after ≡ reached)
       × Follows normalFile (reached .normal) normal (after .normal) normalToRead
       × Follows redundantFile (reached .redundant) redundant (after .redundant) redundantToRead
 
--- What a refill read: the bytes behind those that were left.
-abbrev pub wasRead : Window → List ℕ → Refilled → List ℕ
-wasRead w after r = drop (leftOf w) (unread after (r .window))
-
--- A link's buffer and window, and the bytes of its file that are still to be read, stay as they are or are refilled. A refill (what `window::refill`
--- ensures) reads the next bytes of the file, and all of them where it says that the file has ended: this alone is assumed of the calls that read.
+-- A link's buffer and window, and the bytes of its file that are still to be read, stay as they are or are refilled. A refill (what
+-- `window::refill` ensures) reads the next bytes of the file, and all of them where it says that the file has ended: this alone is assumed
+-- of the calls that read.
 pub data Reads (buffer : List ℕ) (w : Window) (toRead : List ℕ) : List ℕ → Window → List ℕ → Type 0 where
   stays : Reads buffer w toRead buffer w toRead
   refills : (after : List ℕ) (r : Refilled) → RefilledFrom buffer w after r → length after ≡ length buffer
@@ -71,28 +69,17 @@ ReadsFollow =
     (file : List ℕ) (place : ℕ) (buffer : List ℕ) (w : Window) (toRead after : List ℕ) (v : Window) (rest : List ℕ)
     → Follows file place buffer w toRead → Reads buffer w toRead after v rest → Follows file place after v rest
 
-module _ (before : List ℕ) (w : Window) (afterwards : List ℕ) (r : Refilled) where
-  -- Unless a read failed, a window is not low after a refill of a buffer that holds a packet.
-  abbrev pub RefillNotLow : Type 0
-  RefillNotLow = RefilledFrom before w afterwards r → mostBytes ≤ length before → r .failed ≡ false → lowOf mostBytes (r .window) ≡ false
-
--- before the first step both windows are empty, and nothing was handed up
-abbrev pub startOf : State → Progress
-startOf state = record { normal = emptyWindow; redundant = emptyWindow; state = state; «handed_up» = 0; last = false }
-
--- the same progress with other windows
-abbrev pub windowed : Window → Window → Progress → Progress
-windowed normal redundant p = record { normal = normal; redundant = redundant; state = p .state; «handed_up» = p .«handed_up»; last = p .last }
-
--- A cutting of two files through their windows: the buffers, the progress with the windows on the bytes at hand, the bytes of each file that are still to be
--- read, and all that was printed. It starts with the heading. Windows are refilled, or not, in any order and number. A step is taken over windows that are
--- not low (what `recording::advance` asks), and none after the last.
+-- A cutting of two files through their windows: the buffers, the progress with the windows on the bytes at hand, the bytes of each file
+-- that are still to be read, and all that was printed. It starts with the heading. Windows are refilled, or not, in any order and number. A
+-- step is taken over windows that are not low (what `recording::advance` asks), and none after the last.
 pub data Cuts (state : State) (normalFile redundantFile : List ℕ) : List ℕ → List ℕ → Progress → List ℕ → List ℕ → List ℕ → Type 0 where
-  starts : (normal redundant : List ℕ) → Cuts state normalFile redundantFile normal redundant (startOf state) normalFile redundantFile heading
+  starts : (normal redundant : List ℕ)
+      → Cuts state normalFile redundantFile normal redundant (startOf state) normalFile redundantFile heading
   reads : {normal redundant : List ℕ} {p : Progress} {normalToRead redundantToRead printed : List ℕ}
       → Cuts state normalFile redundantFile normal redundant p normalToRead redundantToRead printed
       → {normalAfter redundantAfter : List ℕ} {n r : Window} {normalRest redundantRest : List ℕ}
-      → Reads normal (p .normal) normalToRead normalAfter n normalRest → Reads redundant (p .redundant) redundantToRead redundantAfter r redundantRest
+      → Reads normal (p .normal) normalToRead normalAfter n normalRest
+      → Reads redundant (p .redundant) redundantToRead redundantAfter r redundantRest
       → Cuts state normalFile redundantFile normalAfter redundantAfter (windowed n r p) normalRest redundantRest printed
   steps : {normal redundant : List ℕ} {p : Progress} {normalToRead redundantToRead printed : List ℕ}
       → Cuts state normalFile redundantFile normal redundant p normalToRead redundantToRead printed
@@ -102,47 +89,43 @@ pub data Cuts (state : State) (normalFile redundantFile : List ℕ) : List ℕ �
 
 -- Where such a cutting has taken its last step, all that was printed, and the last line, are what `cut` prints for the whole files.
 abbrev pub PiecesAsWhole : Type 0
-PiecesAsWhole = (state : State) (normalFile redundantFile normal redundant : List ℕ) (p : Progress) (normalToRead redundantToRead printed : List ℕ)
+PiecesAsWhole =
+    (state : State) (normalFile redundantFile normal redundant : List ℕ) (p : Progress) (normalToRead redundantToRead printed : List ℕ)
     → Cuts state normalFile redundantFile normal redundant p normalToRead redundantToRead printed → p .last ≡ true
     → printed ++ endOf (p .«handed_up») ≡ cutOf state normalFile redundantFile
 
 -- What a program does in turn: windows topped up, a step, its line.
 
--- A window that was topped up: refilled where it was low, else as it was.
-pub record ToppedUp (before : List ℕ) (w : Window) (after : List ℕ) (v : Window) : Type 0 where
-  pub refilled : Refilled
-  pub window : refilled .window ≡ v
-  pub low : lowOf mostBytes w ≡ true → RefilledFrom before w after refilled
-  pub not-low : lowOf mostBytes w ≡ false → (v ≡ w) × (after ≡ before)
-
--- The place in an out buffer of this size: where there is no room for a line, what it holds is written, and the place is 0 again.
-unfoldable pub placeOf : ℕ → ℕ → ℕ
-placeOf size at =
-    when ltb (size - at) mostLine answer 0 else
-    at
-
--- One turn: room for a line; both windows topped up, so that neither is low; a step over them, with its line put into the out buffer.
-pub record TurnOf (normal redundant : List ℕ) (p : Progress) (out : List ℕ) (at : ℕ) (normalAfter redundantAfter outAfter : List ℕ) (r : Advanced)
+-- Both windows topped up, so that neither is low.
+pub record BothToppedUp (normal redundant : List ℕ) (p : Progress) (normalAfter redundantAfter : List ℕ) (first second : Refilled)
     : Type 0 where
-  pub first : Window
-  pub second : Window
-  pub up-normal : ToppedUp normal (p .normal) normalAfter first
-  pub up-redundant : ToppedUp redundant (p .redundant) redundantAfter second
-  pub high-normal : lowOf mostBytes first ≡ false
-  pub high-redundant : lowOf mostBytes second ≡ false
-  pub advanced : AdvancedTo normalAfter redundantAfter (windowed first second p) out (placeOf (length out) at) outAfter r
+  pub up-normal : ToppedUp mostBytes normal (p .normal) normalAfter first
+  pub up-redundant : ToppedUp mostBytes redundant (p .redundant) redundantAfter second
+  pub high-normal : lowOf mostBytes (first .window) ≡ false
+  pub high-redundant : lowOf mostBytes (second .window) ≡ false
 
--- Between the turns: the bytes that were read of each file and the text that was written, so that with any bytes that follow, none where a file has ended,
--- it is the cutting of two files that has printed what was written and what the out buffer holds.
+-- One turn: room for a line; both windows topped up; a step over them, with its line put into the out buffer.
+pub record TurnOf (normal redundant : List ℕ) (p : Progress) (out : List ℕ) (at : ℕ) (normalAfter redundantAfter outAfter : List ℕ)
+    (r : Advanced) : Type 0 where
+  pub first : Refilled
+  pub second : Refilled
+  pub up : BothToppedUp normal redundant p normalAfter redundantAfter first second
+  pub advanced :
+      AdvancedTo normalAfter redundantAfter (windowed (first .window) (second .window) p) out (placeOf mostLine (length out) at) outAfter r
+
+-- Between the turns: the bytes that were read of each file and the text that was written, so that with any bytes that follow, none where a
+-- file has ended, it is the cutting of two files that has printed what was written and what the out buffer holds.
 pub record Cutting (state : State) (normal redundant : List ℕ) (p : Progress) (out : List ℕ) (at : ℕ) : Type 0 where
   pub normalRead : List ℕ
   pub redundantRead : List ℕ
   pub written : List ℕ
-  pub cuts : (normalRest redundantRest : List ℕ) → (p .normal .ended ≡ true → normalRest ≡ []) → (p .redundant .ended ≡ true → redundantRest ≡ [])
-      → Cuts state (normalRead ++ normalRest) (redundantRead ++ redundantRest) normal redundant p normalRest redundantRest (written ++ take at out)
+  pub cuts : (normalRest redundantRest : List ℕ)
+      → (p .normal .ended ≡ true → normalRest ≡ []) → (p .redundant .ended ≡ true → redundantRest ≡ [])
+      → Cuts state (normalRead ++ normalRest) (redundantRead ++ redundantRest) normal redundant p normalRest redundantRest
+      (written ++ take at out)
 
--- After the last step: what was written, what the out buffer holds and the last line, which counts the packets handed up, are what `cut` prints for the bytes
--- that were read.
+-- After the last step: what was written, what the out buffer holds and the last line, which counts the packets handed up, are what `cut`
+-- prints for the bytes that were read.
 pub record PrintedToTheEnd (state : State) (out : List ℕ) (at : ℕ) (count : ℕ) : Type 0 where
   pub normalRead : List ℕ
   pub redundantRead : List ℕ

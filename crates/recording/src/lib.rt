@@ -3,20 +3,23 @@ ghost use mathlib.Core.Path.{_≡_};
 ghost use mathlib.Core.Bool.{true, false};
 ghost use Prim.Native.Nat.{_+_, _^_, _≤_, _<_};
 ghost use lib.ListN.{length};
-ghost use Rattle.text.specs.Text.{PutAt, mostDigits};
+ghost use Rattle.text.specs.Text.{PutAt};
 ghost use Rattle.window.specs.Window.{lowOf};
 ghost use Rattle.links.specs.Promises.{mostBytes};
-ghost use Rattle.recording.specs.Printed.{heading, linkName, numberText, handedUpText, lineOf, endOf, mostLine};
-ghost use Rattle.recording.specs.Progress.{takenAt, lastAnswer, countedOf, steppedOf, UsesNoMore, Lies, AdvancedTo};
+ghost use Rattle.recording.specs.Printed.{heading, linkName, handedUpText, lineOf, endOf, mostLinkName, mostHandedUp, mostLine};
+ghost use Rattle.recording.specs.Progress.{startOf, windowed, takenAt, lastAnswer, countedOf, steppedOf};
+ghost use Rattle.recording.specs.Progress.{UsesNoMore, Lies, AdvancedTo};
 use links::State;
 use links::Taken;
 use window::Window;
 
-// The most bytes of a line.
-pub const MOST_LINE: usize = 115;
+// The most bytes of a link's name, and of a line: the name, five numbers, and its end.
+const MOST_LINK_NAME: usize = 9;
+
+pub const MOST_LINE: usize = MOST_LINK_NAME + 5 * text::MOST_NUMBER + 1;
 
 // The most bytes of a packet, which are the most that one step looks at: a window with fewer is low.
-pub const MOST_PACKET: usize = 1034;
+pub const MOST_BYTES: usize = packet::HEADER_SIZE + packet::MOST_DATA;
 
 // The windows of the two links, the state of the steps, how many packets were handed up, and whether the last step answered 301 or 308.
 pub struct Progress {
@@ -33,6 +36,35 @@ pub struct Advanced {
     pub next: usize,
 }
 
+impl Progress {
+    // Before the first step.
+    pub fn start(state: State) -> Progress
+        ensures { λ r. ⌜ r ≡ startOf state ⌝ }
+    {
+        Progress {
+            normal: Window::empty(),
+            redundant: Window::empty(),
+            state,
+            handed_up: 0,
+            last: false,
+        }
+    }
+
+    // The same with other windows.
+    pub fn windowed(self, normal: Window, redundant: Window) -> Progress
+        ensures { λ r. ⌜ r ≡ windowed normal redundant self ⌝ }
+    {
+        let state = self.state;
+        Progress {
+            normal,
+            redundant,
+            state,
+            handed_up: self.handed_up,
+            last: self.last,
+        }
+    }
+}
+
 // The heading.
 pub fn put_heading(out: &mut [u8], at: usize) -> usize
     requires { ⌜ at + mostLine ≤ length (now out) ⌝ }
@@ -43,9 +75,9 @@ pub fn put_heading(out: &mut [u8], at: usize) -> usize
 
 // The name of a link.
 fn put_link(out: &mut [u8], at: usize, normal: bool) -> usize
-    requires { ⌜ at + 9 ≤ length (now out) ⌝ }
+    requires { ⌜ at + mostLinkName ≤ length (now out) ⌝ }
     ensures { λ r. ⌜ PutAt (now (out .entry)) at (linkName normal) (now (out .exit)) r ⌝ }
-    ensures { λ r. ⌜ r ≤ at + 9 ⌝ }
+    ensures { λ r. ⌜ r ≤ at + mostLinkName ⌝ }
 {
     if normal {
         return text::put(out, at, b"normal");
@@ -53,25 +85,15 @@ fn put_link(out: &mut [u8], at: usize, normal: bool) -> usize
     text::put(out, at, b"redundant")
 }
 
-// A number after a space.
-pub fn put_number(out: &mut [u8], at: usize, n: u64) -> usize
-    requires { ⌜ at + 1 + mostDigits ≤ length (now out) ⌝ }
-    ensures { λ r. ⌜ PutAt (now (out .entry)) at (numberText n) (now (out .exit)) r ⌝ }
-    ensures { λ r. ⌜ r ≤ at + 1 + mostDigits ⌝ }
-{
-    let next = text::put(out, at, b" ");
-    text::put_decimal(out, next, n)
-}
-
 // The type, the number and the count of user data bytes, and the end of the line.
 fn put_handed_up(out: &mut [u8], at: usize, kind: u8, number: u16, size: usize) -> usize
-    requires { ⌜ at + 64 ≤ length (now out) ⌝ }
+    requires { ⌜ at + mostHandedUp ≤ length (now out) ⌝ }
     ensures { λ r. ⌜ PutAt (now (out .entry)) at (handedUpText kind number size) (now (out .exit)) r ⌝ }
-    ensures { λ r. ⌜ r ≤ at + 64 ⌝ }
+    ensures { λ r. ⌜ r ≤ at + mostHandedUp ⌝ }
 {
-    let after_kind = put_number(out, at, kind as u64);
-    let after_number = put_number(out, after_kind, number as u64);
-    let after_size = put_number(out, after_number, size as u64);
+    let after_kind = text::put_number(out, at, kind as u64);
+    let after_number = text::put_number(out, after_kind, number as u64);
+    let after_size = text::put_number(out, after_number, size as u64);
     text::put(out, after_size, b"\n")
 }
 
@@ -83,8 +105,8 @@ fn put_counted(out: &mut [u8], at: usize, taken: Taken, size: usize) -> usize
     ensures { λ r. ⌜ r ≤ at + mostLine ⌝ }
 {
     let after_link = put_link(out, at, taken.normal);
-    let after_answer = put_number(out, after_link, taken.answer as u64);
-    let after_used = put_number(out, after_answer, taken.used as u64);
+    let after_answer = text::put_number(out, after_link, taken.answer as u64);
+    let after_used = text::put_number(out, after_answer, taken.used as u64);
     put_handed_up(out, after_used, taken.kind, taken.number, size)
 }
 
@@ -104,7 +126,7 @@ pub fn put_end(out: &mut [u8], at: usize, count: u64) -> usize
     ensures { λ r. ⌜ r ≤ at + mostLine ⌝ }
 {
     let after_end = text::put(out, at, b"end");
-    let after_count = put_number(out, after_end, count);
+    let after_count = text::put_number(out, after_end, count);
     text::put(out, after_count, b"\n")
 }
 

@@ -1,10 +1,10 @@
-// single steps|packets|messages|writes|calls|tables FILE: takes the inputs of a file one after the other, each by itself, and prints what comes of it.
+// single steps|packets|messages|writes|calls|tables FILE: takes the inputs of a file, each by itself, and prints what comes of it.
 // It is there to be compared with the independent program, which makes such files.
 ghost use mathlib.Core.Path.{_≡_};
 ghost use Prim.Native.Nat.{_+_, _≤_};
 ghost use lib.ListN.{length};
-ghost use Rattle.single.specs.Sizes.{mostLines};
-ghost use Rattle.window.specs.Window.{Within, usedOf};
+ghost use Rattle.single.specs.Sizes.{mostInput, mostLines};
+ghost use Rattle.window.specs.Window.{Within};
 
 mod one_call;
 mod one_message;
@@ -15,8 +15,6 @@ mod one_table;
 mod one_write;
 
 use text::Chosen;
-use window::Read;
-use window::Refilled;
 use window::Window;
 
 // An input fits a window that has so many bytes.
@@ -77,44 +75,11 @@ fn input_at(kind: Kind, s: &[u8], out: &mut [u8]) -> Done
     }
 }
 
-// Refills a window that is low, or says why the file can't be read.
-fn topped_up(fd: i32, name: &[u8], buffer: &mut [u8], window: Window) -> Refilled
-    requires { ⌜ Within window (length (now buffer)) ⌝ }
-    ensures { λ r. ⌜ Within (r .window) (length (now (buffer .entry))) ⌝ }
-{
-    if !window.low(MOST_INPUT) {
-        return Refilled {
-            window,
-            failed: false,
-            last: Read { room: 0, got: 0 },
-        };
-    }
-    let refilled = window::refill(fd, buffer, window);
-    if refilled.failed {
-        os::fail(name);
-    }
-    refilled
-}
-
 // Says that bytes are left which are no whole input.
 fn say_cut(left: usize) {
     if left > 0 {
-        io::write_all(
-            libc::STDERR_FILENO,
-            b"single: the file ends within an input, or has one that is too long\n",
-        );
+        text::say(b"single: the file ends within an input, or has one that is too long\n");
     }
-}
-
-// Prints an input's lines, or says why it can't.
-fn written(out: &[u8], next: usize) -> bool
-    requires { ⌜ next ≤ length (now out) ⌝ }
-{
-    let whole = text::print(out, next);
-    if !whole {
-        os::fail(b"standard output");
-    }
-    whole
 }
 
 // The input at the front of a window, its lines, and the window with the input used up.
@@ -134,7 +99,7 @@ fn taken(kind: Kind, buffer: &[u8], out: &mut [u8], window: Window) -> Turned
     }
     Turned {
         window: window.used(done.used),
-        goes_on: written(out, done.next),
+        goes_on: text::written(out, done.next),
     }
 }
 
@@ -147,10 +112,10 @@ fn turn(
     out: &mut [u8],
     window: Window,
 ) -> Turned
-    requires { ⌜ Within window (length (now buffer)) × (mostLines ≤ length (now out)) ⌝ }
+    requires { ⌜ Within window (length (now buffer)) × (mostInput ≤ length (now buffer)) × (mostLines ≤ length (now out)) ⌝ }
     ensures { λ r. ⌜ Within (r .window) (length (now (buffer .entry))) ⌝ }
 {
-    let topped = topped_up(fd, name, buffer, window);
+    let topped = window::topped_up(fd, name, buffer, window, MOST_INPUT);
     let lent = topped.window;
     if topped.failed {
         return Turned {
@@ -163,7 +128,7 @@ fn turn(
 
 // The inputs of a file, one after the other. A proved loop has to end, so it counts its turns down, from a number that no run uses up.
 fn all(kind: Kind, fd: i32, name: &[u8], buffer: &mut [u8], out: &mut [u8])
-    requires { ⌜ mostLines ≤ length (now out) ⌝ }
+    requires { ⌜ (mostInput ≤ length (now buffer)) × (mostLines ≤ length (now out)) ⌝ }
 {
     let mut window = Window::empty();
     let mut turns = u64::MAX;
@@ -190,33 +155,11 @@ fn asked() -> Kind {
     kind_of(&word[..size])
 }
 
-// Says why the file can't be read: by its name, or where the name is empty or too long by the word that stands for it.
-fn fail(name: &[u8]) {
-    if name.len() == 0 {
-        os::fail(b"FILE");
-        return;
-    }
-    os::fail(name);
-}
-
-// Opens the file that an argument names, just after the argument was read; or says why it can't, and answers a number below 0.
-fn opened(name: &[u8]) -> i32 {
-    if os::errno() != 0 {
-        fail(name);
-        return -1;
-    }
-    let fd = os::open_read(name);
-    if fd < 0 {
-        fail(name);
-    }
-    fd
-}
-
 // Opens the file that the second argument names, and takes its inputs.
 fn run_named(kind: Kind) {
     let mut name = io::buffer();
     let size = os::arg(2, &mut name);
-    let fd = opened(&name[..size]);
+    let fd = window::opened(&name[..size], b"FILE");
     if fd < 0 {
         return;
     }
@@ -225,8 +168,7 @@ fn run_named(kind: Kind) {
 }
 
 fn usage() {
-    io::write_all(
-        libc::STDERR_FILENO,
+    text::say(
         b"single: the arguments are steps, packets, messages, writes, calls or tables, and FILE\n",
     );
 }

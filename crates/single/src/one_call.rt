@@ -122,7 +122,7 @@ fn put_delivered(out: &mut [u8], at: usize, bytes: &[u8], count: usize) -> usize
         return text::put(out, at, b" 0 -");
     }
     let next = text::put(out, at, b" 15");
-    line::put_bytes(out, next, calls::delivered(bytes, count))
+    text::put_bytes(out, next, calls::delivered(bytes, count))
 }
 
 // The words of an answer: its number, whether the slot was released, what was written, what is delivered.
@@ -131,7 +131,7 @@ pub fn put_answer(out: &mut [u8], answer: Answer, bytes: &[u8], lent: &[u8]) -> 
     ensures { λ r. ⌜ r ≤ 4133 ⌝ }
 {
     let after_number = put_number(out, 0, answer.number, answer.released);
-    let after_written = line::put_written(out, after_number, lent, answer.written);
+    let after_written = text::put_written(out, after_number, lent, answer.written);
     put_delivered(out, after_written, bytes, answer.delivered)
 }
 
@@ -195,7 +195,7 @@ pub fn call_at(s: &[u8], out: &mut [u8]) -> Done
     if MOST < size || MOST < room {
         return Done { next: 0, used: 0 };
     }
-    let mut lent = [line::BEFORE; MOST];
+    let mut lent = [text::BEFORE; MOST];
     Done {
         next: put_call(out, s, end, &mut lent, room),
         used: end,

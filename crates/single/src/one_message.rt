@@ -15,10 +15,10 @@ fn put_header(out: &mut [u8], at: usize, h: Header) -> usize
     let last_peer_stamp = h.last_peer_stamp;
     let arrival = h.arrival;
     let after_kind = text::put_decimal(out, at, h.kind as u64);
-    let after_number = line::put_number(out, after_kind, h.number as u64);
-    let after_stamp = line::put_number(out, after_number, stamp.0 as u64);
-    let after_last = line::put_number(out, after_stamp, last_peer_stamp.0 as u64);
-    line::put_number(out, after_last, arrival.0 as u64)
+    let after_number = text::put_number(out, after_kind, h.number as u64);
+    let after_stamp = text::put_number(out, after_number, stamp.0 as u64);
+    let after_last = text::put_number(out, after_stamp, last_peer_stamp.0 as u64);
+    text::put_number(out, after_last, arrival.0 as u64)
 }
 
 // The offsets of type 4.
@@ -28,8 +28,8 @@ fn put_offsets(out: &mut [u8], at: usize, t: Tail) -> usize
 {
     let min = t.min;
     let max = t.max;
-    let after_min = line::put_offset(out, at, min);
-    line::put_offset(out, after_min, max)
+    let after_min = text::put_offset(out, at, min);
+    text::put_offset(out, after_min, max)
 }
 
 // What the type has after the header: of application data only how many bytes.
@@ -38,11 +38,11 @@ fn put_after(out: &mut [u8], at: usize, kind: u8, t: Tail) -> usize
     ensures { λ r. ⌜ r ≤ at + 44 ⌝ }
 {
     match kind {
-        1 | 2 => line::put_number(out, at, t.period as u64),
+        1 | 2 => text::put_number(out, at, t.period as u64),
         3 => text::put(out, at, b" -"),
         4 => put_offsets(out, at, t),
-        5 => line::put_number(out, at, t.check as u64),
-        _ => line::put_number(out, at, t.data as u64),
+        5 => text::put_number(out, at, t.check as u64),
+        _ => text::put_number(out, at, t.data as u64),
     }
 }
 
@@ -51,10 +51,10 @@ fn put_written(out: &mut [u8], at: usize, h: Header, t: Tail, s: &[u8]) -> usize
     requires { ⌜ at + 2100 ≤ length (now out) ⌝ }
     ensures { λ r. ⌜ r ≤ at + 2100 ⌝ }
 {
-    let mut lent = [line::BEFORE; 1024];
+    let mut lent = [text::BEFORE; 1024];
     let written = message::write(&mut lent, h, t, message::data(s));
     let next = text::put(out, at, b" =");
-    line::put_written(out, next, &lent, written)
+    text::put_written(out, next, &lent, written)
 }
 
 // The line of a message as it was taken apart.

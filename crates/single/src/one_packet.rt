@@ -40,7 +40,7 @@ fn put_packet(out: &mut [u8], s: &[u8], end: usize, lent: &mut [u8], room: usize
 {
     let made = write_packet(s, end, lent, room);
     let after_answer = text::put_decimal(out, 0, made.answer as u64);
-    let after_written = line::put_written(out, after_answer, lent, made.written);
+    let after_written = text::put_written(out, after_answer, lent, made.written);
     text::put(out, after_written, b"\n")
 }
 
@@ -60,7 +60,7 @@ pub fn packet_at(s: &[u8], out: &mut [u8]) -> Done
     if MOST < room {
         return Done { next: 0, used: 0 };
     }
-    let mut lent = [line::BEFORE; MOST];
+    let mut lent = [text::BEFORE; MOST];
     Done {
         next: put_packet(out, s, end, &mut lent, room),
         used: end,

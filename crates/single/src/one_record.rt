@@ -67,18 +67,18 @@ fn put_limits(out: &mut [u8], at: usize, settings: Settings) -> usize
     requires { ⌜ at + 63 ≤ length (now out) ⌝ }
     ensures { λ r. ⌜ r ≤ at + 63 ⌝ }
 {
-    let after_t_start = line::put_number(out, at, settings.t_start as u64);
-    let after_t_off = line::put_number(out, after_t_start, settings.t_off as u64);
-    line::put_number(out, after_t_off, settings.limit as u64)
+    let after_t_start = text::put_number(out, at, settings.t_start as u64);
+    let after_t_off = text::put_number(out, after_t_start, settings.t_off as u64);
+    text::put_number(out, after_t_off, settings.limit as u64)
 }
 
 fn put_settings(out: &mut [u8], at: usize, settings: Settings) -> usize
     requires { ⌜ at + 126 ≤ length (now out) ⌝ }
     ensures { λ r. ⌜ r ≤ at + 126 ⌝ }
 {
-    let after_n = line::put_number(out, at, settings.n as u64);
-    let after_t_max = line::put_number(out, after_n, settings.t_max as u64);
-    let after_e = line::put_number(out, after_t_max, settings.e as u64);
+    let after_n = text::put_number(out, at, settings.n as u64);
+    let after_t_max = text::put_number(out, after_n, settings.t_max as u64);
+    let after_e = text::put_number(out, after_t_max, settings.e as u64);
     put_limits(out, after_e, settings)
 }
 
@@ -87,9 +87,9 @@ fn put_numbers(out: &mut [u8], at: usize, c: Connection) -> usize
     requires { ⌜ at + 63 ≤ length (now out) ⌝ }
     ensures { λ r. ⌜ r ≤ at + 63 ⌝ }
 {
-    let after_own = line::put_number(out, at, c.own_number as u64);
-    let after_period = line::put_number(out, after_own, c.period as u64);
-    line::put_number(out, after_period, c.last_number as u64)
+    let after_own = text::put_number(out, at, c.own_number as u64);
+    let after_period = text::put_number(out, after_own, c.period as u64);
+    text::put_number(out, after_period, c.last_number as u64)
 }
 
 // The peer's stamp, its arrival, the start of the wait.
@@ -100,9 +100,9 @@ fn put_counts(out: &mut [u8], at: usize, c: Connection) -> usize
     let peer_stamp = c.peer_stamp;
     let arrival = c.arrival;
     let wait_start = c.wait_start;
-    let after_stamp = line::put_number(out, at, peer_stamp.0 as u64);
-    let after_arrival = line::put_number(out, after_stamp, arrival.0 as u64);
-    line::put_number(out, after_arrival, wait_start.0 as u64)
+    let after_stamp = text::put_number(out, at, peer_stamp.0 as u64);
+    let after_arrival = text::put_number(out, after_stamp, arrival.0 as u64);
+    text::put_number(out, after_arrival, wait_start.0 as u64)
 }
 
 // Min, max, the error counter, the remembered clock.
@@ -113,10 +113,10 @@ fn put_judged(out: &mut [u8], at: usize, c: Connection) -> usize
     let min = c.min;
     let max = c.max;
     let clock = c.clock;
-    let after_min = line::put_offset(out, at, min);
-    let after_max = line::put_offset(out, after_min, max);
-    let after_errors = line::put_number(out, after_max, c.errors as u64);
-    line::put_number(out, after_errors, clock.0 as u64)
+    let after_min = text::put_offset(out, at, min);
+    let after_max = text::put_offset(out, after_min, max);
+    let after_errors = text::put_number(out, after_max, c.errors as u64);
+    text::put_number(out, after_errors, clock.0 as u64)
 }
 
 pub fn put_record(out: &mut [u8], at: usize, c: Connection) -> usize
@@ -124,7 +124,7 @@ pub fn put_record(out: &mut [u8], at: usize, c: Connection) -> usize
     ensures { λ r. ⌜ r ≤ at + 359 ⌝ }
 {
     let settings = c.settings;
-    let after_phase = line::put_number(out, at, c.phase as u64);
+    let after_phase = text::put_number(out, at, c.phase as u64);
     let after_settings = put_settings(out, after_phase, settings);
     let after_numbers = put_numbers(out, after_settings, c);
     let after_counts = put_counts(out, after_numbers, c);

@@ -43,10 +43,10 @@ fn put_state(out: &mut [u8], at: usize, state: State) -> usize
     ensures { λ r. ⌜ r ≤ at + 100 ⌝ }
 {
     let word = text::put(out, at, b"state");
-    let normal = recording::put_number(out, word, one_or_zero(state.normal_up));
-    let redundant = recording::put_number(out, normal, one_or_zero(state.redundant_up));
-    let first = recording::put_number(out, redundant, one_or_zero(state.first));
-    recording::put_number(out, first, state.last as u64)
+    let normal = text::put_number(out, word, one_or_zero(state.normal_up));
+    let redundant = text::put_number(out, normal, one_or_zero(state.redundant_up));
+    let first = text::put_number(out, redundant, one_or_zero(state.first));
+    text::put_number(out, first, state.last as u64)
 }
 
 // Version, application type and start of what is handed up, and the end of the line.
@@ -54,9 +54,9 @@ fn put_packet(out: &mut [u8], at: usize, version: u8, application: u8, start: us
     requires { ⌜ at + 70 ≤ length (now out) ⌝ }
     ensures { λ r. ⌜ r ≤ at + 70 ⌝ }
 {
-    let after_version = recording::put_number(out, at, version as u64);
-    let after_application = recording::put_number(out, after_version, application as u64);
-    let after_start = recording::put_number(out, after_application, start as u64);
+    let after_version = text::put_number(out, at, version as u64);
+    let after_application = text::put_number(out, after_version, application as u64);
+    let after_start = text::put_number(out, after_application, start as u64);
     text::put(out, after_start, b"\n")
 }
 
@@ -66,7 +66,7 @@ fn put_data(out: &mut [u8], at: usize, data: &[u8]) -> usize
     ensures { λ r. ⌜ r ≤ at + 7 + 2 * length (now («data» .entry)) ⌝ }
 {
     let word = text::put(out, at, b"data");
-    let after_data = line::put_bytes(out, word, data);
+    let after_data = text::put_bytes(out, word, data);
     text::put(out, after_data, b"\n")
 }
 

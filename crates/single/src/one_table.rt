@@ -236,7 +236,7 @@ pub fn table_at(s: &[u8], out: &mut [u8]) -> Done
     if s.len() < end {
         return Done { next: 0, used: 0 };
     }
-    let mut lent = [line::BEFORE; MOST];
+    let mut lent = [text::BEFORE; MOST];
     Done {
         next: put_call(out, s, records, from, end, &mut lent, room),
         used: end,

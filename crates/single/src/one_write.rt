@@ -56,7 +56,7 @@ fn put_write(out: &mut [u8], s: &[u8], end: usize, lent: &mut [u8], room: usize)
 {
     let written = write_message(s, end, lent, room);
     let after_count = text::put_decimal(out, 0, written as u64);
-    let after_written = line::put_written(out, after_count, lent, written);
+    let after_written = text::put_written(out, after_count, lent, written);
     text::put(out, after_written, b"\n")
 }
 
@@ -76,7 +76,7 @@ pub fn write_at(s: &[u8], out: &mut [u8]) -> Done
     if MOST < room {
         return Done { next: 0, used: 0 };
     }
-    let mut lent = [line::BEFORE; MOST];
+    let mut lent = [text::BEFORE; MOST];
     Done {
         next: put_write(out, s, end, &mut lent, room),
         used: end,

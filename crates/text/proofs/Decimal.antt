@@ -25,8 +25,8 @@ unfolding decimalIn
 fewest places zero n f h = absurd (omega arith)
 fewest zero (suc most) n f h =
     let small : n < 10 = omega (arith, f .1, pow-suc 10 0, pow-zero 10) in
-    rw (lt-ltb n 10 small)
-    (ap (λ (d : ℕ). d ∷ []) (last-digit n ∙ ap digit (omega arith)))
+    let same : n % 10 ≡ n = omega arith in
+    ap (λ (d : ℕ). d ∷ []) (last-digit n ∙ ap digit same) ∙ rw (lt-ltb n 10 small)
 fewest (suc places) (suc most) n f h =
     let fewer : suc (suc places) - 1 ≡ suc places = omega arith in
     let held : 10 ^ suc places ≤ n = subst (λ (k : ℕ). 10 ^ k ≤ n) fewer (f .2 (omega arith)) in

@@ -1,6 +1,6 @@
--- Text put into an out buffer, numbers in decimal, and the choice between two words.
+-- Text put into an out buffer, room for it, numbers in decimal, and the choice between two words.
 -- Assumes nothing.
-use Prim.Native.Nat.{ℕ, zero, suc, _+_, _/_, _%_}
+use Prim.Native.Nat.{ℕ, zero, suc, _+_, _-_, _/_, _%_}
 use mathlib.Core.Bool.{Bool, true, false, _&&_}
 use mathlib.Core.List.{List, [], _∷_, _++_}
 use mathlib.Core.Path.{_≡_}
@@ -21,9 +21,18 @@ abbrev pub PutsAgree : Type 0
 PutsAgree = (before : List ℕ) (at : ℕ) (text after after′ : List ℕ) (next next′ : ℕ)
     → PutAt before at text after next → PutAt before at text after′ next′ → (after ≡ after′) × (next ≡ next′)
 
--- the digit of a number below 10: 0 is 48
+-- TRACE-16, CUT-3: the place in an out buffer of this size for so many bytes at the most: where they have no room behind the place, what
+-- the buffer holds is written, and the place is 0 again
+unfoldable pub placeOf : ℕ → ℕ → ℕ → ℕ
+placeOf most size at =
+    when ltb (size - at) most answer 0 else
+    at
+
+-- the digit of a number below 16: 0 is 48, and A is 65
 abbrev pub digit : ℕ → ℕ
-digit d = 48 + d
+digit n =
+    when ltb n 10 answer 48 + n else
+    (65 + (n - 10))
 
 -- a number in decimal, in at most so many digits: those of a tenth of it, if it has more than one, then the last
 unfoldable pub decimalIn : ℕ → ℕ → List ℕ

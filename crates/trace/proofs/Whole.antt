@@ -1,17 +1,17 @@
 -- However a trace is cut into pieces, what is printed for them, put together, is what the replay prints for the whole trace.
 -- Assumes nothing.
-use Prim.Native.Nat.{ℕ, zero, suc, _+_, _-_, _≤_}
+use Prim.Native.Nat.{ℕ, zero, suc, _-_, _≤_}
 use mathlib.Core.Path.{_≡_, refl, sym, ap, subst, _∙_}
 use mathlib.Core.Bool.{Bool, true, false, false≢true}
 use mathlib.Core.List.{List, [], _++_, append-assoc, append-nil}
 use mathlib.Core.Logic.{_⊎_, inl, inr, ⊎-elim}
 use native.Mathlib.Omega.{arith}
-use lib.Dec.{ltb}
-use lib.ListN.{length, take, drop, length-append}
-use lib.Seq.{length-take-le, take-at, drop-append-le, sets-eq}
-use Rattle.text.specs.Text.{PutAt}
+use lib.ListN.{length, take, drop}
+use lib.Seq.{drop-append-le}
+use Rattle.text.specs.Text.{PutAt, placeOf}
+use Rattle.text.proofs.Places.{front-put, Placed, placed, put-behind}
 use Rattle.rules.specs.Rows.{when_answer_else_}
-use Rattle.window.specs.Window.{Within, emptyWindow, leftOf, unread, lowOf, usedOf}
+use Rattle.window.specs.Window.{Within, emptyWindow, leftOf, unread, lowOf, usedOf, wasRead, ToppedUp}
 use Rattle.window.specs.declared.Window.{Window}
 use Rattle.window.specs.declared.Refilled.{Refilled}
 use Rattle.window.proofs.Unread.{length-unread, unread-used, enough-or-ended, low-not-ended, unread-refilled}
@@ -19,7 +19,7 @@ use Rattle.trace.specs.Record.{mostRecord, recordOf}
 use Rattle.trace.specs.Printed.{heading, mostLine}
 use Rattle.trace.specs.Replay.{startOf, Turn, replays, turnOn, turnOf, replayFrom, replayOf}
 use Rattle.trace.specs.Pieces.{Reach, waits, turned, advanceIn, advanceOf, reachOf, AdvancedTo}
-use Rattle.trace.specs.Whole.{wasRead, Replays, PiecesAsWhole, ToppedUp, placeOf, PieceOf, Replaying, PrintedWhole}
+use Rattle.trace.specs.Whole.{Replays, PiecesAsWhole, PieceOf, Replaying, PrintedWhole}
 use Rattle.trace.specs.Whole.Replays.{starts, refills, advances}
 use Rattle.trace.specs.declared.Next.{Next}
 use Rattle.trace.specs.declared.Next.the-variants.{End, Bad, Whole}
@@ -127,13 +127,6 @@ pieces-as-whole trace buffer w toRead p printed run stopped =
 
 -- ---- the pieces of a program
 
--- the front of an out buffer after text is put behind it
-front-put : {before after text : List ℕ} {at next : ℕ} → PutAt before at text after next → next ≤ length before → take next after ≡ take at before ++ text
-front-put {before} {after} {text} {at} {next} put within =
-    let fits : at + length text ≤ length before = omega (arith, put .place) in
-    let size : length (take at before ++ text) ≡ next = omega (arith, length-append (take at before) text, length-take-le at before (omega arith), put .place) in
-    ap (take next) (put .bytes ∙ sets-eq text before at fits) ∙ take-at (take at before ++ text) (drop (at + length text) before) next size
-
 -- before the first piece: the heading is put
 pub replaying-first : (buffer : List ℕ) {w : Window} {p : Progress} {before out : List ℕ} {at : ℕ} → w ≡ emptyWindow → p ≡ startOf → PutAt before 0 heading out at
     → at ≤ length before → Replaying buffer w p out at
@@ -148,13 +141,14 @@ replaying-first buffer {w} {p} {before} {out} {at} empty start put within = reco
 
 -- where a window is topped up, the bytes that were read are those of the refill
 topped-replays : (before : List ℕ) (w : Window) (p : Progress) (out : List ℕ) (at : ℕ) (after : List ℕ) (r : Refilled) → length after ≡ length before
-    → ToppedUp before w after r → Replaying before w p out at → Replaying after (r .window) p out at
+    → ToppedUp mostRecord before w after r → Replaying before w p out at → Replaying after (r .window) p out at
 topped-replays before w p out at after r size up was = by (lowOf mostRecord w) refl
   where
     by : (low : Bool) → lowOf mostRecord w ≡ low → Replaying after (r .window) p out at
     by false e =
         let same = up .not-low e in
-        subst (λ (v : Window). Replaying after v p out at) (sym (same .0)) (subst (λ (l : List ℕ). Replaying l w p out at) (sym (same .1)) was)
+        let window = ap (λ (q : Refilled). q .window) (same .0) in
+        subst (λ (v : Window). Replaying after v p out at) (sym window) (subst (λ (l : List ℕ). Replaying l w p out at) (sym (same .1)) was)
     by true e = record {
       read = was .read ++ wasRead w after r;
       written = was .written;
@@ -181,28 +175,19 @@ module _ (buffer : List ℕ) (p : Progress) (w : Window) (lent out : List ℕ) (
 
   -- the replay after the records of a piece
   advanced-replays : (written : List ℕ) (at : ℕ) (read : List ℕ) → ((rest : List ℕ) → (w .ended ≡ true → rest ≡ []) → Replays (read ++ rest) buffer w rest p (written ++ take at out))
-      → (before : List ℕ) → before ++ take place out ≡ written ++ take at out → Replaying buffer (r .window) (r .progress) outAfter (r .next)
+      → Placed written out at place → Replaying buffer (r .window) (r .progress) outAfter (r .next)
   unfolding reached
-  advanced-replays written at read replays before same = record {
+  advanced-replays written at read replays placing = record {
     read = read;
-    written = before;
+    written = placing .before;
     replays = λ rest all.
         let stays = ap (λ (v : Window). v .ended) (advanced .window) ∙ ended-stays (suc (leftOf w)) (length out - place) buffer (reachOf p w lent) in
         let run = advances (replays rest (λ ended. all (stays ∙ ended))) (length out - place) lent in
-        subst (λ (v : Window). Replays (read ++ rest) buffer v rest (r .progress) (before ++ take (r .next) outAfter)) (sym (advanced .window))
-        (subst (λ (q : Progress). Replays (read ++ rest) buffer (reached .window) rest q (before ++ take (r .next) outAfter)) (sym (advanced .progress))
+        subst (λ (v : Window). Replays (read ++ rest) buffer v rest (r .progress) (placing .before ++ take (r .next) outAfter)) (sym (advanced .window))
+        (subst (λ (q : Progress). Replays (read ++ rest) buffer (reached .window) rest q (placing .before ++ take (r .next) outAfter)) (sym (advanced .progress))
         (subst (λ (l : List ℕ). Replays (read ++ rest) buffer (reached .window) rest (reached .progress) l)
-        (sym (ap (λ (l : List ℕ). before ++ l) (front-put (advanced .put) (advanced .within)) ∙ sym (append-assoc before (take place out) (reached .text)) ∙ ap (λ (l : List ℕ). l ++ reached .text) same)) run));
+        (sym (put-behind placing (advanced .put) (advanced .within))) run));
   }
-
--- the place is as it was, or 0
-place-is : (size at : ℕ) → (placeOf size at ≡ at) ⊎ (placeOf size at ≡ 0)
-unfolding placeOf
-place-is size at = by (ltb (size - at) mostLine)
-  where
-    by : (full : Bool) → ((when full answer 0 else at) ≡ at) ⊎ ((when full answer 0 else at) ≡ 0)
-    by true = inr refl
-    by false = inl refl
 
 -- a piece carries the replay on
 pub piece-replays : (before : List ℕ) (w : Window) (p : Progress) (lent out : List ℕ) (at : ℕ) (after lentAfter outAfter : List ℕ) (r : Advanced)
@@ -211,11 +196,8 @@ pub piece-replays : (before : List ℕ) (w : Window) (p : Progress) (lent out : 
 piece-replays before w p lent out at after lentAfter outAfter r size piece was =
     let v = piece .topped .window in
     let now = topped-replays before w p out at after (piece .topped) size (piece .up) was in
-    let place = placeOf (length out) at in
-    let carried = advanced-replays after p v lent out place lentAfter outAfter r (piece .advanced) (now .written) at (now .read) (now .replays) in
-    ⊎-elim (λ here. carried (now .written) (ap (λ (n : ℕ). now .written ++ take n out) here))
-    (λ front. carried (now .written ++ take at out) (ap (λ (n : ℕ). now .written ++ take at out ++ take n out) front ∙ append-nil (now .written ++ take at out)))
-    (place-is (length out) at)
+    advanced-replays after p v lent out (placeOf mostLine (length out) at) lentAfter outAfter r (piece .advanced) (now .written) at (now .read) (now .replays)
+    (placed mostLine (now .written) out at)
 
 -- where it has stopped, all is printed
 pub printed-whole : (buffer : List ℕ) (w : Window) (p : Progress) (out : List ℕ) (at : ℕ) → Replaying buffer w p out at → p .stopped ≡ true → PrintedWhole out at

@@ -1,10 +1,12 @@
 // A window on a file: a bounded buffer that is refilled, so that a file of any length is taken a part at a time.
 ghost use mathlib.Core.Path.{_≡_};
+ghost use mathlib.Core.Bool.{false};
 ghost use Prim.Native.Nat.{_+_, _-_, _≤_};
 ghost use lib.ListN.{length, take, drop};
 ghost use lib.Seq.{sets};
 ghost use Rattle.libc.specs.Io.{Moved};
-ghost use Rattle.window.specs.Window.{emptyWindow, Within, lowOf, usedOf, endedBy, failedBy, cameBy, FilledFrom, RefilledFrom};
+ghost use Rattle.window.specs.Window.{emptyWindow, Within, lowOf, usedOf, endedBy, failedBy, cameBy, asItWas};
+ghost use Rattle.window.specs.Window.{FilledFrom, RefilledFrom, ToppedUp};
 
 // The bytes of the buffer from `from` to `to` are read and not used up; `ended` says that the file has no more.
 pub struct Window {
@@ -93,6 +95,19 @@ impl Window {
     }
 }
 
+impl Refilled {
+    // A window that is not refilled.
+    pub fn as_it_was(window: Window) -> Refilled
+        ensures { λ r. ⌜ r ≡ asItWas window ⌝ }
+    {
+        Refilled {
+            window,
+            failed: false,
+            last: Read { room: 0, got: 0 },
+        }
+    }
+}
+
 // Moves the bytes that are left to the front.
 fn keep(buffer: &mut [u8], from: usize, to: usize)
     requires { ⌜ (from ≤ to) × (to ≤ length (now buffer)) ⌝ }
@@ -109,8 +124,8 @@ fn keep(buffer: &mut [u8], from: usize, to: usize)
 // One read behind the first `at` bytes, which stay.
 fn read_behind(fd: i32, buffer: &mut [u8], at: usize) -> Came
     requires { ⌜ at ≤ length (now buffer) ⌝ }
-    ensures { λ r. ⌜ (r .count ≡ cameBy (r .read)) × (r .read .room ≡ length (now (buffer .entry)) - at) × Moved (r .read .room) (r .read .got)
-        × (take at (now (buffer .exit)) ≡ take at (now (buffer .entry))) ⌝ }
+    ensures { λ r. ⌜ (r .count ≡ cameBy (r .read)) × (r .read .room ≡ length (now (buffer .entry)) - at)
+        × Moved (r .read .room) (r .read .got) × (take at (now (buffer .exit)) ≡ take at (now (buffer .entry))) ⌝ }
 {
     let room = buffer.len() - at;
     let got = libc::read(fd, &mut buffer[at..]);
@@ -157,4 +172,43 @@ pub fn refill(fd: i32, buffer: &mut [u8], window: Window) -> Refilled
         failed: last.failed(),
         last,
     }
+}
+
+// Tops a window up for steps that look at `most` bytes at the most: refills it where it is low, and says why where its file can't be read.
+pub fn topped_up(fd: i32, name: &[u8], buffer: &mut [u8], window: Window, most: usize) -> Refilled
+    requires { ⌜ Within window (length (now buffer)) × (most ≤ length (now buffer)) ⌝ }
+    ensures { λ r. ⌜ ToppedUp most (now (buffer .entry)) window (now (buffer .exit)) r ⌝ }
+    ensures { λ r. ⌜ Within (r .window) (length (now (buffer .entry))) ⌝ }
+    ensures { λ r. ⌜ (r .failed ≡ false → lowOf most (r .window) ≡ false) ⌝ }
+{
+    if !window.low(most) {
+        return Refilled::as_it_was(window);
+    }
+    let refilled = refill(fd, buffer, window);
+    if refilled.failed {
+        os::fail(name);
+    }
+    refilled
+}
+
+// Says why a file can't be read: by its name, or where the name is empty or too long by the word that stands for it.
+fn fail(name: &[u8], word: &[u8]) {
+    if name.len() == 0 {
+        os::fail(word);
+        return;
+    }
+    os::fail(name);
+}
+
+// Opens the file that an argument names, just after the argument was read; or says why it can't, and answers a number below 0.
+pub fn opened(name: &[u8], word: &[u8]) -> i32 {
+    if os::errno() != 0 {
+        fail(name, word);
+        return -1;
+    }
+    let fd = os::open_read(name);
+    if fd < 0 {
+        fail(name, word);
+    }
+    fd
 }

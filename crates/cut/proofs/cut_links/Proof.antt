@@ -2,14 +2,14 @@
 -- within their buffers, the out buffer's place within it, and the packets handed up and the turns left are together below 2 ^ 64. The measure is the number
 -- of turns that are left. Assumes nothing.
 use Prim.Native.Nat.{_+_, _^_, _≤_, _<_}
-use mathlib.Core.Path.{_≡_, refl, ap₂, _∙_}
+use mathlib.Core.Path.{_≡_, refl, ap, _∙_}
 use mathlib.Core.Bool.{false}
 use native.Mathlib.Omega.{arith}
 use lib.ListN.{length}
-use Rattle.window.specs.declared.Window.{Window}
 use Rattle.window.proofs.Empty.{none-within}
 use Rattle.recording.specs.Progress.{Lies}
-use Rattle.recording.specs.Whole.{startOf, windowed, Cutting}
+use Rattle.recording.specs.declared.Progress.{Progress}
+use Rattle.recording.specs.Whole.{Cutting}
 use Rattle.recording.proofs.Turns.{cutting-first, turn-cuts, printed-to-the-end}
 use Rattle.cut.proofs.cut_links.Statement.{statement}
 use Rattle.cut.proofs.cut_links.Tie as tie
@@ -24,31 +24,28 @@ abbrev μ-loop : tie.MeasureT-loop
 μ-loop normal-fd normal-name normal₀ redundant-fd redundant-name redundant₀ out₀ place state at₀ p₀ turns₀ normal redundant out at p turns =
     turns
 
-empty-requires : tie.Need-empty-requires Inv-loop μ-loop
-empty-requires c κs = tt
-
-empty-requires-2 : tie.Need-empty-requires-2 Inv-loop μ-loop
-empty-requires-2 c κs = tt
+start-requires : tie.Need-start-requires Inv-loop μ-loop
+start-requires c κs = tt
 
 loop-holds : tie.Need-loop-holds Inv-loop μ-loop
 loop-holds c =
-    let start = c .before .before .before .before .before .before .before in
+    let first = c .start .ensures in
+    let start = c .before .before .before .before .before .before in
     let a = start .args in (
       refl,
       refl,
       refl,
-      (none-within _ _ (c .before .empty .ensures), none-within _ _ (c .empty2 .ensures)),
+      (none-within _ _ (ap (λ (p : Progress). p .normal) first), none-within _ _ (ap (λ (p : Progress). p .redundant) first)),
       start .pre .1 .0 .0,
-      omega arith,
-      refl,
-      cutting-first (a .state) (a .normal .now) (a .redundant .now)
-          (ap₂ (λ (n r : Window). windowed n r (startOf (a .state))) (c .before .empty .ensures) (c .empty2 .ensures)) (start .pre .1 .1),
+      omega (arith, ap (λ (p : Progress). p .«handed_up») first),
+      ap (λ (p : Progress). p .last) first,
+      cutting-first (a .state) (a .normal .now) (a .redundant .now) first (start .pre .1 .1),
     )
 
 turn-requires : tie.Need-turn-requires Inv-loop μ-loop
 turn-requires c κs =
     let inv = c .before .before .before .before .loop .inv in
-    let pre = c .before .before .before .before .before .before .before .before .before .before .before .before .pre in
+    let pre = c .before .before .before .before .before .before .before .before .before .before .before .pre in
     let lies = inv .3 in (
       ((lies .0 .0, omega (arith, lies .0 .1, inv .0)), (lies .1 .0, omega (arith, lies .1 .1, inv .1))),
       (
@@ -73,19 +70,18 @@ put-last-requires : tie.Need-put-last-requires Inv-loop μ-loop
 put-last-requires c κs =
     let at = c .before .before .before .before .before .before .before .before .before .before .before .before .before .before .before .before .loop in
     let turned = c .before .before .before .before .before .before .before .before .before .before .before .turn in
-    let pre = c .before .before .before .before .before .before .before .before .before .before .before .before .before .before .before .before .before .before .before .before .before .before .before .before .pre in
+    let made = turned .ensures (c .before .before .before .before .if1 .left) in
+    let start = c .before .before .before .before .before .before .before .before .before .before .before .before .before .before .before .before .before .before .before .before .before .before .before in
     let inv = at .inv in
     let normal = turned .last .1 .1 .0 in
     let redundant = turned .last .1 .1 .1 .1 .1 .0 in
     let out = turned .last .1 .1 .1 .1 .1 .1 .0 in
-    let p = turned .result .advanced .progress in
-    let next = turned .result .advanced .next in
-    let state = c .before .before .before .before .before .before .before .before .before .before .before .before .before .before .before .before .before .before .before .before .before .before .before .before .args .state in
+    let after = turned .result .advanced in
     let carried =
-    turn-cuts state (at .normal) (at .redundant) (at .p) (at .out) (at .at) normal redundant out (turned .result .advanced) (turned .ensures .1 .1 (c .before .before .before .before .if1 .left))
-    (turned .kept .1 .1 .0) (turned .kept .1 .1 .1 .1 .1 .0) (turned .ensures .1 .0 .0) (inv .6) (inv .7) in (
-      (omega (arith, turned .ensures .1 .0 .0, turned .kept .1 .1 .1 .1 .1 .1 .0), omega (arith, turned .kept .1 .1 .1 .1 .1 .1 .0, inv .2, pre .1 .0 .1)),
-      printed-to-the-end state normal redundant p out next carried (c .before .if2 .taken),
+    turn-cuts (start .args .state) (at .normal) (at .redundant) (at .p) (at .out) (at .at) normal redundant out after (made .0)
+    (turned .kept .1 .1 .0) (turned .kept .1 .1 .1 .1 .1 .0) (made .2) (inv .6) (inv .7) in (
+      (omega (arith, made .2, turned .kept .1 .1 .1 .1 .1 .1 .0), omega (arith, turned .kept .1 .1 .1 .1 .1 .1 .0, inv .2, start .pre .1 .0 .1)),
+      printed-to-the-end (start .args .state) normal redundant (after .progress) out (after .next) carried (c .before .if2 .taken),
     )
 
 same-length-4 : tie.Need-same-length-4 Inv-loop μ-loop
@@ -110,19 +106,20 @@ loop-again : tie.Need-loop-again Inv-loop μ-loop
 loop-again c =
     let at = c .before .before .before .before .before .before .before .before .before .before .before .before .before .before .before .loop in
     let turned = c .before .before .before .before .before .before .before .before .before .before .turn in
+    let made = turned .ensures (c .before .before .before .if1 .left) in
+    let state = c .before .before .before .before .before .before .before .before .before .before .before .before .before .before .before .before .before .before .before .before .before .before .args .state in
     let inv = at .inv in
-    let lies = turned .ensures .0 in
-    let state = c .before .before .before .before .before .before .before .before .before .before .before .before .before .before .before .before .before .before .before .before .before .before .before .args .state in (
+    let lies = made .1 in (
       turned .kept .1 .1 .0 ∙ inv .0,
       turned .kept .1 .1 .1 .1 .1 .0 ∙ inv .1,
       turned .kept .1 .1 .1 .1 .1 .1 .0 ∙ inv .2,
       ((lies .0 .0, omega (arith, lies .0 .1, inv .0)), (lies .1 .0, omega (arith, lies .1 .1, inv .1))),
-      omega (arith, turned .ensures .1 .0 .0, inv .2),
-      omega (arith, turned .ensures .1 .0 .1, inv .5),
+      omega (arith, made .2, inv .2),
+      omega (arith, made .3, inv .5, c .before .before .before .before .before .before .before .before .before .before .before .before .before .before .loop-test .taken),
       c .if2 .left,
-      turn-cuts state (at .normal) (at .redundant) (at .p) (at .out) (at .at) (turned .last .1 .1 .0) (turned .last .1 .1 .1 .1 .1 .0) (turned .last .1 .1 .1 .1 .1 .1 .0)
-          (turned .result .advanced) (turned .ensures .1 .1 (c .before .before .before .if1 .left))
-          (turned .kept .1 .1 .0) (turned .kept .1 .1 .1 .1 .1 .0) (turned .ensures .1 .0 .0) (inv .6) (inv .7),
+      turn-cuts state (at .normal) (at .redundant) (at .p) (at .out) (at .at) (turned .last .1 .1 .0) (turned .last .1 .1 .1 .1 .1 .0)
+          (turned .last .1 .1 .1 .1 .1 .1 .0) (turned .result .advanced) (made .0) (turned .kept .1 .1 .0) (turned .kept .1 .1 .1 .1 .1 .0) (made .2) (inv .6)
+          (inv .7),
     )
 
 same-length-7 : tie.Need-same-length-7 Inv-loop μ-loop
@@ -143,8 +140,7 @@ cut-links-spec =
     (tie.spec
     Inv-loop
     μ-loop
-    empty-requires
-    empty-requires-2
+    start-requires
     loop-holds
     turn-requires
     same-length

@@ -1,6 +1,6 @@
 -- `cut::print_all` meets its contract: the heading stands at the front of the out buffer. Assumes nothing.
 use native.Mathlib.Omega.{arith}
-use Rattle.recording.proofs.Turns.{front-put}
+use Rattle.text.proofs.Places.{front-put}
 use borrow.Author.Needs.{needs}
 use Rattle.cut.proofs.print_all.Statement.{statement}
 use Rattle.cut.proofs.print_all.Tie as tie

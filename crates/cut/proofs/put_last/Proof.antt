@@ -9,8 +9,8 @@ use borrow.Author.Needs.{needs}
 use Rattle.cut.proofs.put_last.Statement.{statement}
 use Rattle.cut.proofs.put_last.Tie as tie
 
-room-requires : tie.Need-room-requires
-room-requires c κs = search needs
+make-room-requires : tie.Need-make-room-requires
+make-room-requires c κs = search needs
 
 same-length : tie.Need-same-length
 same-length c = search needs
@@ -24,7 +24,7 @@ put-end-requires c κs = search needs
 finish-requires : tie.Need-finish-requires
 finish-requires c κs =
     let ends = c .before .before .before .put-end in
-    let place = c .before .before .before .before .before .before .room in
+    let place = c .before .before .before .before .before .before .make-room in
     let start = c .before .before .before .before .before .before .before .before .before in
     let a = start .args in (
       omega (arith, ends .ensures .1, ends .kept .0, place .ensures .1),
@@ -41,4 +41,4 @@ returns-2 c = tt
 
 pub put-last-spec : {M : Type 1} → statement M
 put-last-spec =
-    tie.close (tie.spec room-requires same-length returns put-end-requires finish-requires same-length-2 returns-2)
+    tie.close (tie.spec make-room-requires same-length returns put-end-requires finish-requires same-length-2 returns-2)

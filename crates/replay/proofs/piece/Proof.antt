@@ -1,6 +1,6 @@
 -- `replay::piece` meets its contract: room, the window topped up, and the records at hand. Assumes nothing.
 use Prim.Native.Nat.{ℕ}
-use mathlib.Core.Path.{sym, subst}
+use mathlib.Core.Path.{sym, subst, _∙_}
 use mathlib.Core.Bool.{false≢true}
 use native.Mathlib.Omega.{arith}
 use Rattle.trace.specs.Pieces.{AdvancedTo}
@@ -11,16 +11,20 @@ use Rattle.replay.proofs.piece.Tie as tie
 make-room-requires : tie.Need-make-room-requires
 make-room-requires c κs = search needs
 
+no-further-requires : tie.Need-no-further-requires
+no-further-requires c κs = tt
+
 same-length : tie.Need-same-length
 same-length c = search needs
 
 returns : tie.Need-returns
-returns c =
-    let start = c .before .before .before .before .before .before .before in
-    (λ ok. absurd (false≢true (sym ok)), (start .pre .0 .0, omega (arith, c .before .make-room .ensures .1), omega arith))
+returns c = λ ok. absurd (false≢true (sym ok ∙ c .no-further .ensures))
 
 topped-up-requires : tie.Need-topped-up-requires
 topped-up-requires c κs = search needs
+
+no-further-requires-2 : tie.Need-no-further-requires-2
+no-further-requires-2 c κs = tt
 
 same-length-2 : tie.Need-same-length-2
 same-length-2 c = search needs
@@ -29,9 +33,7 @@ same-length-3 : tie.Need-same-length-3
 same-length-3 c = search needs
 
 returns-2 : tie.Need-returns-2
-returns-2 c =
-    let topped = c .before .before .before .before .topped-up in
-    (λ ok. absurd (false≢true (sym ok)), (topped .ensures .1 .0, omega (arith, c .before .before .before .before .before .before .before .make-room .ensures .1), omega arith))
+returns-2 c = λ ok. absurd (false≢true (sym ok ∙ c .no-further2 .ensures))
 
 advance-requires : tie.Need-advance-requires
 advance-requires c κs = search needs
@@ -53,8 +55,8 @@ returns-3 c =
     let topped = c .before .before .before .before .before .before .before .before .before .before .before .before .topped-up in
     let advance = c .before .before .before .before .advance in
     let done = advance .ensures in
-    let lies = topped .ensures .1 .0 in (
-      λ _. record {
+    let lies = topped .ensures .1 .0 in λ _. (
+      record {
         topped = topped .result;
         up = topped .ensures .0;
         advanced =
@@ -62,11 +64,9 @@ returns-3 c =
             AdvancedTo (topped .last .1 .1 .0) (a .p) (topped .result .window) (a .lent .now) (a .out .now) n (advance .last .1 .0) (advance .last .1 .1 .0) (advance .result))
             (place .ensures .0) done;
       },
-      (
-        (done .lies .0, omega (arith, done .lies .1, topped .kept .1 .1 .0)),
-        done .within,
-        omega (arith, done .counted, lies .0, lies .1, start .pre .0 .2),
-      ),
+      (done .lies .0, omega (arith, done .lies .1, topped .kept .1 .1 .0)),
+      done .within,
+      omega (arith, done .counted, lies .0, lies .1, start .pre .0 .2),
     )
 
 pub piece-spec : {M : Type 1} → statement M
@@ -74,9 +74,11 @@ piece-spec =
     tie.close
     (tie.spec
     make-room-requires
+    no-further-requires
     same-length
     returns
     topped-up-requires
+    no-further-requires-2
     same-length-2
     same-length-3
     returns-2

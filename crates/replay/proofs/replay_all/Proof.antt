@@ -9,20 +9,21 @@ use Rattle.window.proofs.Empty.{none-within}
 use Rattle.trace.specs.Whole.{Replaying}
 use Rattle.trace.specs.declared.Progress.{Progress}
 use Rattle.trace.proofs.Whole.{replaying-first, piece-replays, printed-whole}
+use Rattle.replay.specs.Sizes.{largeBuffer}
 use Rattle.replay.proofs.replay_all.Statement.{statement}
 use Rattle.replay.proofs.replay_all.Tie as tie
 
 abbrev Inv-loop : tie.InvT-loop
 Inv-loop fd name buffer₀ lent₀ out₀ at₀ progress₀ window₀ turns₀ buffer lent out at progress window turns =
     (length buffer ≡ length buffer₀) × (length lent ≡ length lent₀) × (length out ≡ length out₀)
-    × Within window (length buffer₀) × (at ≤ length out₀) × (progress .count + 65536 * turns < 2 ^ 64)
+    × Within window (length buffer₀) × (at ≤ length out₀) × (progress .count + largeBuffer * turns < 2 ^ 64)
     × Replaying buffer window progress out at
 
 abbrev μ-loop : tie.MeasureT-loop
 μ-loop fd name buffer₀ lent₀ out₀ at₀ progress₀ window₀ turns₀ buffer lent out at progress window turns = turns
 
 put-heading-requires : tie.Need-put-heading-requires Inv-loop μ-loop
-put-heading-requires c κs = c .before .before .before .before .before .pre .3
+put-heading-requires c κs = c .before .before .before .before .before .pre .1 .1
 
 start-requires : tie.Need-start-requires Inv-loop μ-loop
 start-requires c κs = tt
@@ -38,9 +39,9 @@ loop-holds c =
       refl,
       refl,
       none-within _ _ (c .empty .ensures),
-      omega (arith, heading .ensures .place, heading .kept .0, start .pre .3),
+      omega (arith, heading .ensures .place, heading .kept .0, start .pre .1 .1),
       omega (arith, ap (λ (p : Progress). p .count) (c .before .start .ensures)),
-      replaying-first (start .args .buffer .now) (c .empty .ensures) (c .before .start .ensures) (heading .ensures) (omega (arith, heading .ensures .place, start .pre .3)),
+      replaying-first (start .args .buffer .now) (c .empty .ensures) (c .before .start .ensures) (heading .ensures) (omega (arith, heading .ensures .place, start .pre .1 .1)),
     )
 
 piece-requires : tie.Need-piece-requires Inv-loop μ-loop
@@ -49,8 +50,13 @@ piece-requires c κs =
     let pre = c .before .before .before .before .before .before .before .before .before .before .before .before .before .before .before .pre in
     let heading = c .before .before .before .before .before .before .before .before .before .put-heading in
     let lies = inv .3 in (
-      ((lies .0, omega (arith, lies .1, inv .0)), omega (arith, inv .0, pre .0), omega (arith, inv .0, pre .1), inv .1 ∙ pre .2),
-      (omega (arith, inv .2, inv .4), omega (arith, inv .2, heading .kept .0, pre .3), omega (arith, inv .5, c .before .before .before .loop-test .taken)),
+      ((lies .0, omega (arith, lies .1, inv .0)), omega (arith, inv .0, pre .0 .0), omega (arith, inv .0, pre .0 .1)),
+      (
+        inv .1 ∙ pre .1 .0,
+        omega (arith, inv .2, inv .4),
+        omega (arith, inv .2, heading .kept .0, pre .1 .1),
+        omega (arith, inv .5, c .before .before .before .loop-test .taken),
+      ),
     )
 
 same-length : tie.Need-same-length Inv-loop μ-loop
@@ -69,11 +75,12 @@ finish-requires : tie.Need-finish-requires Inv-loop μ-loop
 finish-requires c κs =
     let at = c .before .before .before .before .before .before .before .before .before .before .before .before .before .before .before .before .before .loop in
     let done = c .before .before .before .before .before .before .before .before .before .before .before .before .piece in
+    let made = done .ensures (c .before .before .before .before .before .if1 .left) in
     let carried =
     piece-replays (at .buffer) (at .window) (at .progress) (at .lent) (at .out) (at .at)
-    (done .last .1 .1 .0) (done .last .1 .1 .1 .0) (done .last .1 .1 .1 .1 .0) (done .result .advanced) (done .kept .1 .1 .0) (done .ensures .0 (c .before .before .before .before .before .if1 .left)) (at .inv .6) in
+    (done .last .1 .1 .0) (done .last .1 .1 .1 .0) (done .last .1 .1 .1 .1 .0) (done .result .advanced) (done .kept .1 .1 .0) (made .0) (at .inv .6) in
     let after = done .result .advanced in (
-      omega (arith, done .ensures .1 .1, done .kept .1 .1 .1 .1 .0),
+      omega (arith, made .2, done .kept .1 .1 .1 .1 .0),
       printed-whole (done .last .1 .1 .0) (after .window) (after .progress) (done .last .1 .1 .1 .1 .0) (after .next) carried (c .before .if2 .taken),
     )
 
@@ -100,16 +107,17 @@ loop-again c =
     let at = c .before .before .before .before .before .before .before .before .before .before .before .before .before .before .before .before .loop in
     let done = c .before .before .before .before .before .before .before .before .before .before .before .piece in
     let inv = at .inv in
+    let made = done .ensures (c .before .before .before .before .if1 .left) in
     let carried =
     piece-replays (at .buffer) (at .window) (at .progress) (at .lent) (at .out) (at .at)
-    (done .last .1 .1 .0) (done .last .1 .1 .1 .0) (done .last .1 .1 .1 .1 .0) (done .result .advanced) (done .kept .1 .1 .0) (done .ensures .0 (c .before .before .before .before .if1 .left)) (at .inv .6) in
-    let lies = done .ensures .1 .0 in (
+    (done .last .1 .1 .0) (done .last .1 .1 .1 .0) (done .last .1 .1 .1 .1 .0) (done .result .advanced) (done .kept .1 .1 .0) (made .0) (at .inv .6) in
+    let lies = made .1 in (
       done .kept .1 .1 .0 ∙ inv .0,
       done .kept .1 .1 .1 .0 ∙ inv .1,
       done .kept .1 .1 .1 .1 .0 ∙ inv .2,
       (lies .0, omega (arith, lies .1, inv .0)),
-      omega (arith, done .ensures .1 .1, inv .2),
-      omega (arith, done .ensures .1 .2, inv .5, c .before .before .before .before .before .before .before .before .before .before .before .before .before .before .before .loop-test .taken),
+      omega (arith, made .2, inv .2),
+      omega (arith, made .3, inv .5, c .before .before .before .before .before .before .before .before .before .before .before .before .before .before .before .loop-test .taken),
       carried,
     )
 

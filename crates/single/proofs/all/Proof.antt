@@ -23,7 +23,8 @@ loop-holds c = (refl, refl, none-within _ _ (c .empty .ensures))
 turn-requires : tie.Need-turn-requires Inv-loop μ-loop
 turn-requires c κs =
     let inv = c .before .before .before .loop .inv in
-    ((inv .2 .0, omega (arith, inv .2 .1, inv .0)), omega (arith, c .before .before .before .before .before .before .before .before .pre, inv .1))
+    let pre = c .before .before .before .before .before .before .before .before .pre in
+    ((inv .2 .0, omega (arith, inv .2 .1, inv .0)), omega (arith, pre .0, inv .0), omega (arith, pre .1, inv .1))
 
 same-length : tie.Need-same-length Inv-loop μ-loop
 same-length c = c .before .before .before .before .before .before .turn .kept .1 .1 .1 .0 ∙ c .before .before .before .before .before .before .before .before .before .before .loop .inv .0
