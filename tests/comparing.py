@@ -1,50 +1,164 @@
-# What the scripts that compare a proved program with the independent program share: both are run on the same file, and their lines must be the same.
+# What the comparisons share: both programs are built and run on the same files; the inputs of a file, the lines that are printed, what is counted, and where
+# two outputs differ. A script over it has its inputs, what it expects of them, and what must occur.
+import collections
+import contextlib
 import os
 import subprocess
 import sys
 import tempfile
 
 ROOT = os.path.realpath(os.path.join(os.path.dirname(os.path.abspath(__file__)), ".."))
+RUN = os.path.join(ROOT, "tests", "run-program")
+# What `single` and the independent program read inputs of, and the lines that both print for one.
+LINES = {"steps": 6, "packets": 1, "messages": 1, "writes": 1, "calls": 1, "tables": 1}
 
 
 def fail(said):
+    """Ends the script: it has failed, and why."""
     print(os.path.basename(sys.argv[0]) + ": FAILED: " + said)
     sys.exit(1)
 
 
-def must(words):
-    done = subprocess.run(words, capture_output=True, cwd=ROOT)
+def run(words, given=b""):
+    """A program's run with these bytes as standard input: what it prints, what it says on standard error, its status."""
+    return subprocess.run(words, input=given, capture_output=True, cwd=ROOT)
+
+
+def must(words, given=b""):
+    """What is printed by a run that goes well: status 0, and nothing on standard error."""
+    done = run(words, given)
     if done.returncode != 0 or done.stderr:
-        fail(" ".join(words) + "\n" + done.stdout.decode()[-2000:] + done.stderr.decode()[-2000:])
+        fail("%s: status %d\n%s%s" % (" ".join(words), done.returncode, done.stdout.decode()[-2000:], done.stderr.decode()[-2000:]))
     return done.stdout
 
 
-# Says where two outputs differ: what went in there, and both lines.
-def differ(independent, words, ours, theirs):
-    ours, theirs = ours.decode().split("\n"), theirs.decode().split("\n")
+def proved(name, words, given=b""):
+    """What a proved program prints."""
+    return must([RUN, name] + words, given)
+
+
+def number(given):
+    """The number that bytes make, highest byte first."""
+    return int.from_bytes(given, "big")
+
+
+def contents(path):
+    """The bytes of a file."""
+    with open(path, "rb") as file:
+        return file.read()
+
+
+def inputs(given, size, between=lambda fields: 0):
+    """The inputs of a file: `size` bytes of fields, which end with the length of the bytes at its end, and the rest; `between` is what stands before those."""
+    at = 0
+    while at < len(given):
+        fields = given[at:at + size]
+        end = at + size + between(fields) + number(fields[-2:])
+        yield fields, given[at + size:end]
+        at = end
+
+
+def same(what, ours, theirs, given=lambda at: ""):
+    """Fails where two outputs differ: at which line, what went in there, and both lines."""
+    if ours == theirs:
+        return
+    ours, theirs = ours.split(b"\n"), theirs.split(b"\n")
     at = next((at for at, (a, b) in enumerate(zip(ours, theirs)) if a != b), min(len(ours), len(theirs)))
-    given = must([independent] + words).decode().split("\n")
-    fail("they differ at line %d of `independent %s`\ngiven: %s\nproved program: %s\nindependent: %s" % (
-        at + 1, " ".join(words), given[at + 1:at + 2], ours[at:at + 1], theirs[at:at + 1]))
+    fail("%s: they differ at line %d%s\nproved program: %s\nindependent: %s" % (what, at + 1, given(at), ours[at:at + 1], theirs[at:at + 1]))
 
 
-# Runs both on `count` inputs from a seed; gives the file's bytes and the lines, the same of both.
-def compared(independent, folder, kind, seed, count):
-    words = [kind, str(seed), str(count)]
-    name = os.path.join(folder, "%s-%d" % (kind, seed))
-    theirs = must([independent] + words + [name])
-    ours = must([os.path.join(ROOT, "tests", "run-program"), "single", kind, name])
-    if ours != theirs:
-        differ(independent, words, ours, theirs)
-    with open(name, "rb") as file:
-        return file.read(), ours.decode().splitlines()
+def times(counts, names):
+    """How often each of these occurred, in words."""
+    return ", ".join("%s %d" % (name, counts[name]) for name in names)
 
 
-# Proves and builds `single`, builds the independent program in a temporary folder, and runs both for each seed; gives what `compared` gives.
-def compare(kind, seeds):
-    must(["rt", "check", "single"])
-    with tempfile.TemporaryDirectory() as folder:
-        independent = os.path.join(folder, "independent")
-        must([os.path.join(ROOT, "independent", "build"), independent])
+def answered(counts, answers):
+    """How often each of these answers occurred."""
+    return " ".join("%s:%d" % (answer, counts[answer]) for answer in answers)
+
+
+def summed(pairs):
+    """Counts of names, those of one name added up."""
+    counts = collections.Counter()
+    for name, times_of_it in pairs:
+        counts[name] += times_of_it
+    return counts
+
+
+def must_occur(names, counts, how=""):
+    """Fails where one of these never occurred."""
+    never = [name for name in names if not counts[name]]
+    if never:
+        fail("never occurred%s: %s" % (how, never))
+
+
+def no_other(names, counts):
+    """Fails where another one than these occurred."""
+    other = [name for name in counts if counts[name] and name not in names]
+    if other:
+        fail("not one that 01 has there: %s" % other)
+
+
+class Programs:
+    """The independent program beside the proved ones, and a folder for the files that go into them."""
+
+    def __init__(self, folder):
+        self.folder = folder
+        self.built = os.path.join(folder, "independent")
+        must([os.path.join(ROOT, "independent", "build"), self.built])
+
+    def independent(self, words, given=b""):
+        """What the independent program prints."""
+        return must([self.built] + words, given)
+
+    def path(self, name):
+        """Where a file of this name stands."""
+        return os.path.join(self.folder, name)
+
+    def file(self, name, given):
+        """Writes a file; gives its path."""
+        with open(self.path(name), "wb") as file:
+            file.write(given)
+        return self.path(name)
+
+    def made(self, kind, seed, count):
+        """Has a folder filled with `count` random files from a seed; gives its path."""
+        folder = self.path("%s-%d" % (kind, seed))
+        os.mkdir(folder)
+        told = self.independent([kind, str(seed), str(count), folder]).decode()
+        never = [line for line in told.splitlines() if line.startswith("never:")]
+        return fail("seed %d: %s" % (seed, never)) if never else folder
+
+    def agree(self, what, name, words):
+        """What a proved program prints, and the independent one under the same name; fails where they differ, and where that is nothing."""
+        ours = proved(name, words)
+        same(what, ours, self.independent([name] + words))
+        return ours or fail(what + ": nothing is printed")
+
+    def random(self, kind, seed, count):
+        """Makes a file of `count` random inputs from a seed; gives its bytes and what both programs print for it, in lines; fails where they differ."""
+        words, path = [kind, str(seed), str(count)], self.path("%s-%d" % (kind, seed))
+        theirs = self.independent(words + [path])
+        # without a file the independent program prints a heading, and a line for each input with its fields
+        given = lambda at: "\ngiven: %s" % self.independent(words).splitlines()[at // LINES[kind] + 1:][:1]
+        ours = proved("single", [kind, path])
+        same("independent " + " ".join(words), ours, theirs, given)
+        return contents(path), ours.decode().splitlines()
+
+    def each(self, kind, seeds, size, between=lambda fields: 0):
+        """The random inputs of each seed and count: the fields, the rest, and the line that both programs print; fails where there are more or fewer lines."""
         for seed, count in seeds:
-            yield compared(independent, folder, kind, seed, count)
+            given, lines = self.random(kind, seed, count)
+            made = list(inputs(given, size, between))
+            if len(made) != len(lines):
+                fail("seed %d: %d inputs of %s, %d lines" % (seed, len(made), kind, len(lines)))
+            for (fields, rest), line in zip(made, lines):
+                yield fields, rest, line
+
+
+@contextlib.contextmanager
+def programs(*names):
+    """Proves and builds these programs, builds the independent one, and lends both with a folder."""
+    must(["rt", "check"] + list(names))
+    with tempfile.TemporaryDirectory() as folder:
+        yield Programs(folder)
