@@ -15,6 +15,8 @@ HEADING = "slot answer"
 # A connection record's fields in the order of the files of calls that `single` reads, with their widths; min and max in two's complement.
 FIELDS = [("phase", 1), ("N", 2), ("T_max", 4), ("E", 4), ("T_start", 4), ("T_off", 4), ("limit", 1), ("own number", 2), ("period", 4), ("last number", 2),
           ("peer stamp", 4), ("arrival", 4), ("wait start", 4), ("min", 4), ("max", 4), ("errors", 1), ("clock", 4)]
+# A record's bytes in such a file.
+RECORD = sum(width for _, width in FIELDS)
 # Begin's bytes in a trace after the role.
 BEGIN = [("N", 2), ("T_max", 4), ("E", 4), ("T_start", 4), ("T_off", 4), ("limit", 1), ("first number", 2), ("period", 4)]
 ROLES = {"initiator": 0, "responder": 1}
