@@ -1,5 +1,5 @@
-# What the comparisons share: both programs are built and run on the same files; the inputs of a file, the lines that are printed, what is counted, and where
-# two outputs differ. A script over it has its inputs, what it expects of them, and what must occur.
+# What the comparisons share: both programs are built and run on the same files; the inputs of a file, the lines that are printed, what is counted,
+# and where two outputs differ. A script over it has its inputs, what it expects of them, and what must occur.
 import collections
 import contextlib
 import os
@@ -28,7 +28,8 @@ def must(words, given=b""):
     """What is printed by a run that goes well: status 0, and nothing on standard error."""
     done = run(words, given)
     if done.returncode != 0 or done.stderr:
-        fail("%s: status %d\n%s%s" % (" ".join(words), done.returncode, done.stdout.decode()[-2000:], done.stderr.decode()[-2000:]))
+        said = (done.stdout[-2000:] + done.stderr[-2000:]).decode(errors="replace")
+        fail("%s: status %d\n%s" % (" ".join(words), done.returncode, said))
     return done.stdout
 
 
@@ -49,7 +50,7 @@ def contents(path):
 
 
 def inputs(given, size, between=lambda fields: 0):
-    """The inputs of a file: `size` bytes of fields, which end with the length of the bytes at its end, and the rest; `between` is what stands before those."""
+    """The inputs of a file: `size` bytes of fields, the last two a length, and the rest: so many bytes, and those that `between` gives."""
     at = 0
     while at < len(given):
         fields = given[at:at + size]
@@ -64,7 +65,8 @@ def same(what, ours, theirs, given=lambda at: ""):
         return
     ours, theirs = ours.split(b"\n"), theirs.split(b"\n")
     at = next((at for at, (a, b) in enumerate(zip(ours, theirs)) if a != b), min(len(ours), len(theirs)))
-    fail("%s: they differ at line %d%s\nproved program: %s\nindependent: %s" % (what, at + 1, given(at), ours[at:at + 1], theirs[at:at + 1]))
+    both = ours[at:at + 1], theirs[at:at + 1]
+    fail("%s: they differ at line %d%s\nproved program: %s\nindependent: %s" % (what, at + 1, given(at), *both))
 
 
 def times(counts, names):
@@ -129,14 +131,14 @@ class Programs:
         never = [line for line in told.splitlines() if line.startswith("never:")]
         return fail("seed %d: %s" % (seed, never)) if never else folder
 
-    def agree(self, what, name, words):
-        """What a proved program prints, and the independent one under the same name; fails where they differ, and where that is nothing."""
-        ours = proved(name, words)
-        same(what, ours, self.independent([name] + words))
+    def agree(self, what, name, words, given=b""):
+        """What a proved program prints, and the independent one under that name; fails where they differ, and where it is nothing."""
+        ours = proved(name, words, given)
+        same(what, ours, self.independent([name] + words, given))
         return ours or fail(what + ": nothing is printed")
 
     def random(self, kind, seed, count):
-        """Makes a file of `count` random inputs from a seed; gives its bytes and what both programs print for it, in lines; fails where they differ."""
+        """The bytes of a file of `count` random inputs from a seed, and the lines that both programs print for it; fails where they differ."""
         words, path = [kind, str(seed), str(count)], self.path("%s-%d" % (kind, seed))
         theirs = self.independent(words + [path])
         # without a file the independent program prints a heading, and a line for each input with its fields
@@ -146,7 +148,7 @@ class Programs:
         return contents(path), ours.decode().splitlines()
 
     def each(self, kind, seeds, size, between=lambda fields: 0):
-        """The random inputs of each seed and count: the fields, the rest, and the line that both programs print; fails where there are more or fewer lines."""
+        """The random inputs of each seed and count: the fields, the rest, and the line that both programs print for it."""
         for seed, count in seeds:
             given, lines = self.random(kind, seed, count)
             made = list(inputs(given, size, between))
