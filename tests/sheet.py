@@ -173,8 +173,9 @@ def link_of(case, word):
     return place, joined(lines)
 
 
-# The two lines of a step, from `=> ANSWER on LINK, USED used[; type .. from START]` and `after: ..`.
-def step_lines(state, wanted, after):
+# The lines of a step, from `=> ANSWER on LINK, USED used[; type .. from START]`, `after: ..` and what each link holds: three, as the links are lent and
+# the same by readers.
+def step_lines(state, wanted, after, links):
     found = re.fullmatch(r"([0-9]+) on (normal|redundant), ([0-9]+) used(?:; (.*))?", wanted)
     if not found:
         raise Wrong("%s: not an answer of a step" % wanted)
@@ -190,7 +191,8 @@ def step_lines(state, wanted, after):
         else:
             first, last = False, int(word.removeprefix("last "))
     first_line = "%s %s %s %s %s %s" % (link, answer, used, kind, number, data)
-    return answer, [first_line, "state %d %d %d %d %s %s %s" % (*up, first, last, version, application, start)]
+    state_line = "state %d %d %d %d %s %s %s" % (*up, first, last, version, application, start)
+    return answer, 2 * [first_line, state_line, "data " + hexed(links[link][int(start):int(start) + int(data)])]
 
 
 def read_step(case):
@@ -200,7 +202,8 @@ def read_step(case):
     case.kind = "steps"
     case.given = bytes([flags]) + big_endian(state["last"], 2) + big_endian(normal_place, 4) + big_endian(redundant_place, 4)
     case.given += big_endian(len(normal), 2) + big_endian(len(redundant), 2) + normal + redundant
-    case.answer, case.wanted = step_lines(state, item_of(case, "=>")[1], item_of(case, "after:")[1])
+    links = {"normal": normal, "redundant": redundant}
+    case.answer, case.wanted = step_lines(state, item_of(case, "=>")[1], item_of(case, "after:")[1], links)
 
 
 # A run of `cut`: its words, both files, and every line after the heading.
