@@ -18,10 +18,11 @@ use Rattle.true_age.specs.Clocks.{World, countOf}
 use Rattle.true_age.specs.History.{Ours, withWritten, JudgedBytes, History}
 
 module _ (W : World) where
-  -- a call on a slot that gets our count as its now: what it comes to on the slot's record, and what it leaves
+  -- a call on a slot that gets our count as its now: what it comes to on the slot's record
   abbrev pub comesAt : List Connection → ℕ → W .Moment → Call → List ℕ → List ℕ → Outcome
   comesAt table slot u call lent out = outcomeOf call (recordAt table slot) (countOf (W .ours u)) lent (length out)
 
+  -- and what it leaves
   abbrev pub leftAt : List Connection → ℕ → W .Moment → Call → List ℕ → List ℕ → LeftAt
   leftAt table slot u call lent out = madeAt table slot call (countOf (W .ours u)) lent out
 

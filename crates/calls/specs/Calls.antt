@@ -80,7 +80,7 @@ sendRefusal c now size room =
     when ltb room (headerSize + size) answer 108 else
     0
 
--- the roles, by their numbers
+-- CALL-104: the roles, by their numbers:
 abbrev pub initiator : ℕ
 initiator = 0
 
@@ -162,7 +162,7 @@ beginOutcome c g now room =
 
 -- ---- the numbers that each call answers
 
--- CALL-BEGIN, CALL-RECEIVE, CALL-SEND, CALL-TICK, CALL-CLOSE: the numbers with which each refuses, in their order
+-- CALL-BEGIN, CALL-RECEIVE, CALL-SEND, CALL-TICK, CALL-CLOSE, the numbers with which each refuses, in their order:
 abbrev pub beginRefuses : List ℕ
 beginRefuses = 101 ∷ 103 ∷ 104 ∷ 108 ∷ []
 
@@ -266,6 +266,7 @@ pub record Leaves : Type 0 where
   pub called : Called
   pub out : List ℕ
 
+-- made here, of its parts
 abbrev pub leaves : Called → List ℕ → Leaves
 leaves called out = record { called = called; out = out }
 

@@ -84,11 +84,10 @@ made phase settings own peer since offsets errors clock =
 abbrev pub noCount : Count
 noCount = record { 0 = 0 }
 
--- RECORD-3: no settings
+-- RECORD-3, the parts of a record that is all zero:
 abbrev pub noSettings : Settings
 noSettings = record { n = 0; «t_max» = 0; e = 0; «t_start» = 0; «t_off» = 0; limit = 0 }
 
--- RECORD-3: nothing of our own, nothing heard, no offsets
 abbrev pub noOwn : Own
 noOwn = record { number = 0; period = 0 }
 
@@ -120,6 +119,7 @@ counted c errors = made (c .phase) (c .settings) (c .own) (c .peer) (c .«wait_s
 abbrev pub heardOf : Header → Count → Peer
 heardOf h now = record { number = h .number; stamp = h .stamp; arrival = now }
 
+-- heard from the peer
 abbrev pub heard : Connection → Header → Count → Connection
 heard c h now = made (c .phase) (c .settings) (c .own) (heardOf h now) (c .«wait_start») (c .offsets) (c .errors) (c .clock)
 
@@ -127,6 +127,7 @@ heard c h now = made (c .phase) (c .settings) (c .own) (heardOf h now) (c .«wai
 abbrev pub oneMore : Own → Own
 oneMore own = record { number = nextOf (own .number); period = own .period }
 
+-- sent by us
 abbrev pub sent : Connection → Connection
 sent c = made (c .phase) (c .settings) (oneMore (c .own)) (c .peer) (c .«wait_start») (c .offsets) (c .errors) (c .clock)
 

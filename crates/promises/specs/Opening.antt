@@ -1,5 +1,4 @@
--- How a connection opens: the set-up messages of a run of calls on one record since its last begin, and the exchange that they must be
--- (SHUT-4).
+-- How a connection opens: the messages of set-up since the last begin, and the exchange that they must be (SHUT-4).
 use Prim.Native.Nat.{ℕ, suc}
 use mathlib.Core.Path.{_≡_}
 use mathlib.Core.Bool.{not, _&&_}
@@ -19,11 +18,12 @@ use Rattle.what_follows.specs.declared.Outcome.{Outcome}
 use Rattle.calls.specs.declared.Call.{Call}
 use Rattle.calls.specs.Calls.{ruleOf, outcomeOf}
 
--- the messages of set-up, the newest first: a message that was taken, then what was sent back
+-- the messages of set-up, the newest first; what was sent
 abbrev pub withSent : Reply → List Header → List Header
 withSent Nothing log = log
 withSent (Send h t) log = h ∷ log
 
+-- a message that was taken; what is sent back comes after it
 abbrev pub withTaken : Parsed → List Header → List Header
 withTaken Parsed.Malformed log = log
 withTaken (Parsed.Whole h t) log = h ∷ log

@@ -6,6 +6,7 @@ use lib.Signed.{_≤ℤ_}
 use Rattle.clock.specs.Clock.{wrapped}
 use Rattle.clock.specs.declared.Count.{Count}
 
+-- Moments, and what each clock reads at them.
 pub record World : Type 1 where
   pub Moment : Type 0
   -- not after
