@@ -1,26 +1,54 @@
-// The table of connections, a lent slice of records: the five calls on one slot, and the same for whoever owns a table of 64.
+// The table of connections, a lent slice of records: a call on one slot, and the same for whoever owns a table of 64.
 ghost use mathlib.Core.Path.{_≡_};
 ghost use mathlib.Core.List.{[]};
-ghost use lib.ListN.{length};
-ghost use Rattle.table.specs.Table.{badSlot, answerAt, tableAfter, outAt, beginAt, receiveAt, sendAt, tickAt, closeAt};
+ghost use Rattle.connection.specs.Connection.{noCount};
+ghost use Rattle.calls.specs.declared.Call.{Call};
+ghost use Rattle.calls.specs.Calls.{given};
+ghost use Rattle.table.specs.Table.{badSlot, leavesAt, madeAt};
 use calls::Answer;
+use calls::Call;
 use clock::Count;
 use connection::Connection;
 use connection::Settings;
 
-// 101 bad slot or table size.
+// TABLE-1: as many records a table has at most.
+pub const MOST_RECORDS: usize = 64;
+
+// CALL-101: a bad slot or table size.
 fn bad_slot(size: usize, slot: usize) -> bool
     ensures { λ r. ⌜ r ≡ badSlot size slot ⌝ }
 {
     if size == 0 {
         return true;
     }
-    if 64 < size {
+    if MOST_RECORDS < size {
         return true;
     }
     size <= slot
 }
 
+// Any call.
+pub fn make(
+    table: &mut [Connection],
+    slot: usize,
+    call: Call,
+    now: Count,
+    lent: &[u8],
+    out: &mut [u8],
+) -> Answer
+    ensures { λ r. ⌜ leavesAt r (table .exit .now) (out .exit .now)
+        ≡ madeAt (table .entry .now) slot call now (lent .entry .now) (out .entry .now) ⌝ }
+{
+    if bad_slot(table.len(), slot) {
+        return calls::refusal(101);
+    }
+    let c = table[slot];
+    let made = calls::make(c, call, now, lent, out);
+    table[slot] = made.next;
+    made.answer
+}
+
+// CALL-BEGIN.
 pub fn begin(
     table: &mut [Connection],
     slot: usize,
@@ -28,100 +56,80 @@ pub fn begin(
     settings: Settings,
     first: u16,
     period: u32,
-    at: Count,
+    now: Count,
     out: &mut [u8],
 ) -> Answer
-    ensures { λ r. ⌜ (r ≡ answerAt (now (table .entry)) slot (beginAt (now (table .entry)) slot role settings first period at (length (now (out .entry)))) [])
-        × (now (table .exit) ≡ tableAfter (now (table .entry)) slot (beginAt (now (table .entry)) slot role settings first period at (length (now (out .entry)))))
-        × (now (out .exit) ≡ outAt (now (table .entry)) slot (beginAt (now (table .entry)) slot role settings first period at (length (now (out .entry)))) [] (now (out .entry))) ⌝ }
+    ensures { λ r. ⌜ leavesAt r (table .exit .now) (out .exit .now)
+        ≡ madeAt (table .entry .now) slot (Call.Begin (given role settings first period)) now [] (out .entry .now) ⌝ }
 {
     if bad_slot(table.len(), slot) {
-        return Answer {
-            number: 101,
-            released: false,
-            written: 0,
-            delivered: 0,
-        };
+        return calls::refusal(101);
     }
     let c = table[slot];
-    let made = calls::begin(c, role, settings, first, period, at, out);
+    let made = calls::begin(c, role, settings, first, period, now, out);
     table[slot] = made.next;
     made.answer
 }
 
+// CALL-RECEIVE.
 pub fn receive(
     table: &mut [Connection],
     slot: usize,
-    at: Count,
+    now: Count,
     message: &[u8],
     out: &mut [u8],
 ) -> Answer
-    ensures { λ r. ⌜ (r ≡ answerAt (now (table .entry)) slot (receiveAt (now (table .entry)) slot at (now (message .entry)) (length (now (out .entry)))) [])
-        × (now (table .exit) ≡ tableAfter (now (table .entry)) slot (receiveAt (now (table .entry)) slot at (now (message .entry)) (length (now (out .entry)))))
-        × (now (out .exit) ≡ outAt (now (table .entry)) slot (receiveAt (now (table .entry)) slot at (now (message .entry)) (length (now (out .entry)))) [] (now (out .entry))) ⌝ }
+    ensures { λ r. ⌜ leavesAt r (table .exit .now) (out .exit .now)
+        ≡ madeAt (table .entry .now) slot Call.Receive now (message .entry .now) (out .entry .now) ⌝ }
 {
     if bad_slot(table.len(), slot) {
-        return Answer {
-            number: 101,
-            released: false,
-            written: 0,
-            delivered: 0,
-        };
+        return calls::refusal(101);
     }
     let c = table[slot];
-    let made = calls::receive(c, at, message, out);
+    let made = calls::receive(c, now, message, out);
     table[slot] = made.next;
     made.answer
 }
 
-pub fn send(table: &mut [Connection], slot: usize, at: Count, data: &[u8], out: &mut [u8]) -> Answer
-    ensures { λ r. ⌜ (r ≡ answerAt (now (table .entry)) slot (sendAt (now (table .entry)) slot at (length (now («data» .entry))) (length (now (out .entry)))) (now («data» .entry)))
-        × (now (table .exit) ≡ tableAfter (now (table .entry)) slot (sendAt (now (table .entry)) slot at (length (now («data» .entry))) (length (now (out .entry)))))
-        × (now (out .exit) ≡ outAt (now (table .entry)) slot (sendAt (now (table .entry)) slot at (length (now («data» .entry))) (length (now (out .entry)))) (now («data» .entry)) (now (out .entry))) ⌝ }
+// CALL-SEND.
+pub fn send(
+    table: &mut [Connection],
+    slot: usize,
+    now: Count,
+    data: &[u8],
+    out: &mut [u8],
+) -> Answer
+    ensures { λ r. ⌜ leavesAt r (table .exit .now) (out .exit .now)
+        ≡ madeAt (table .entry .now) slot Call.Send now («data» .entry .now) (out .entry .now) ⌝ }
 {
     if bad_slot(table.len(), slot) {
-        return Answer {
-            number: 101,
-            released: false,
-            written: 0,
-            delivered: 0,
-        };
+        return calls::refusal(101);
     }
     let c = table[slot];
-    let made = calls::send(c, at, data, out);
+    let made = calls::send(c, now, data, out);
     table[slot] = made.next;
     made.answer
 }
 
-pub fn tick(table: &mut [Connection], slot: usize, at: Count) -> Answer
-    ensures { λ r. ⌜ (r ≡ answerAt (now (table .entry)) slot (tickAt (now (table .entry)) slot at) [])
-        × (now (table .exit) ≡ tableAfter (now (table .entry)) slot (tickAt (now (table .entry)) slot at)) ⌝ }
+// CALL-TICK: it is lent nothing.
+pub fn tick(table: &mut [Connection], slot: usize, now: Count) -> Answer
+    ensures { λ r. ⌜ leavesAt r (table .exit .now) [] ≡ madeAt (table .entry .now) slot Call.Tick now [] [] ⌝ }
 {
     if bad_slot(table.len(), slot) {
-        return Answer {
-            number: 101,
-            released: false,
-            written: 0,
-            delivered: 0,
-        };
+        return calls::refusal(101);
     }
     let c = table[slot];
-    let made = calls::tick(c, at);
+    let made = calls::tick(c, now);
     table[slot] = made.next;
     made.answer
 }
 
+// CALL-CLOSE: it is lent nothing, and has no now.
 pub fn close(table: &mut [Connection], slot: usize) -> Answer
-    ensures { λ r. ⌜ (r ≡ answerAt (now (table .entry)) slot (closeAt (now (table .entry)) slot) [])
-        × (now (table .exit) ≡ tableAfter (now (table .entry)) slot (closeAt (now (table .entry)) slot)) ⌝ }
+    ensures { λ r. ⌜ leavesAt r (table .exit .now) [] ≡ madeAt (table .entry .now) slot Call.Close noCount [] [] ⌝ }
 {
     if bad_slot(table.len(), slot) {
-        return Answer {
-            number: 101,
-            released: false,
-            written: 0,
-            delivered: 0,
-        };
+        return calls::refusal(101);
     }
     let c = table[slot];
     let made = calls::close(c);
@@ -132,66 +140,22 @@ pub fn close(table: &mut [Connection], slot: usize) -> Answer
 // A call's answer, and the table that it leaves.
 pub struct Held {
     pub answer: Answer,
-    pub table: [Connection; 64],
+    pub table: [Connection; MOST_RECORDS],
 }
 
-pub fn begin_in(
-    t: [Connection; 64],
+// Any call, for whoever owns the table.
+pub fn make_in(
+    t: [Connection; MOST_RECORDS],
     slot: usize,
-    role: u8,
-    settings: Settings,
-    first: u16,
-    period: u32,
-    at: Count,
+    call: Call,
+    now: Count,
+    lent: &[u8],
     out: &mut [u8],
 ) -> Held
-    ensures { λ r. ⌜ (r .answer ≡ answerAt t slot (beginAt t slot role settings first period at (length (now (out .entry)))) [])
-        × (r .table ≡ tableAfter t slot (beginAt t slot role settings first period at (length (now (out .entry)))))
-        × (now (out .exit) ≡ outAt t slot (beginAt t slot role settings first period at (length (now (out .entry)))) [] (now (out .entry))) ⌝ }
+    ensures { λ r. ⌜ leavesAt (r .answer) (r .table) (out .exit .now)
+        ≡ madeAt t slot call now (lent .entry .now) (out .entry .now) ⌝ }
 {
     let mut table = t;
-    let answer = begin(&mut table, slot, role, settings, first, period, at, out);
-    Held { answer, table }
-}
-
-pub fn receive_in(
-    t: [Connection; 64],
-    slot: usize,
-    at: Count,
-    message: &[u8],
-    out: &mut [u8],
-) -> Held
-    ensures { λ r. ⌜ (r .answer ≡ answerAt t slot (receiveAt t slot at (now (message .entry)) (length (now (out .entry)))) [])
-        × (r .table ≡ tableAfter t slot (receiveAt t slot at (now (message .entry)) (length (now (out .entry)))))
-        × (now (out .exit) ≡ outAt t slot (receiveAt t slot at (now (message .entry)) (length (now (out .entry)))) [] (now (out .entry))) ⌝ }
-{
-    let mut table = t;
-    let answer = receive(&mut table, slot, at, message, out);
-    Held { answer, table }
-}
-
-pub fn send_in(t: [Connection; 64], slot: usize, at: Count, data: &[u8], out: &mut [u8]) -> Held
-    ensures { λ r. ⌜ (r .answer ≡ answerAt t slot (sendAt t slot at (length (now («data» .entry))) (length (now (out .entry)))) (now («data» .entry)))
-        × (r .table ≡ tableAfter t slot (sendAt t slot at (length (now («data» .entry))) (length (now (out .entry)))))
-        × (now (out .exit) ≡ outAt t slot (sendAt t slot at (length (now («data» .entry))) (length (now (out .entry)))) (now («data» .entry)) (now (out .entry))) ⌝ }
-{
-    let mut table = t;
-    let answer = send(&mut table, slot, at, data, out);
-    Held { answer, table }
-}
-
-pub fn tick_in(t: [Connection; 64], slot: usize, at: Count) -> Held
-    ensures { λ r. ⌜ (r .answer ≡ answerAt t slot (tickAt t slot at) []) × (r .table ≡ tableAfter t slot (tickAt t slot at)) ⌝ }
-{
-    let mut table = t;
-    let answer = tick(&mut table, slot, at);
-    Held { answer, table }
-}
-
-pub fn close_in(t: [Connection; 64], slot: usize) -> Held
-    ensures { λ r. ⌜ (r .answer ≡ answerAt t slot (closeAt t slot) []) × (r .table ≡ tableAfter t slot (closeAt t slot)) ⌝ }
-{
-    let mut table = t;
-    let answer = close(&mut table, slot);
+    let answer = make(&mut table, slot, call, now, lent, out);
     Held { answer, table }
 }

@@ -1,0 +1,1 @@
+// What the table promises beyond its equations: no code, definitions and theorems over `table`.
