@@ -11,11 +11,11 @@ use Rattle.message.specs.Read.{dataOf}
 use Rattle.connection.specs.declared.Connection.{Connection}
 use Rattle.peer_faults.specs.Faults.{messageAge}
 use Rattle.calls.specs.declared.Answer.{Answer}
-use Rattle.calls.specs.Calls.{answerOf, receiveOutcome, deliveredOf}
+use Rattle.calls.specs.declared.Call.{Call}
+use Rattle.calls.specs.Calls.{receiveOutcome, refusal, made, deliveredOf}
 use Rattle.promises.specs.Promises.{deliversTo}
-use Rattle.table.specs.Table.{badSlot, recordAt, refusal, answerAt}
-use Rattle.table.specs.Promises.{receive, answerTo}
-use Rattle.table.proofs.Promises.{promises}
+use Rattle.table.specs.Table.{badSlot, recordAt, LeftAt, leavesAt, storedAt, madeAt}
+use Rattle.table_promises.proofs.Promises.{promises}
 use Rattle.true_age.specs.Clocks.{countOf}
 use Rattle.true_age.specs.History.{Ours, Written}
 use Rattle.true_age.specs.Claim.{transit, trueAge, AgeClaim, HandsUp, Claim}
@@ -34,13 +34,13 @@ refusal-hands-up c message = record { count = rw none refl; bytes = rw none refl
     none = other-delivers-none c 101 refl refl
 
 pub hands-up-at-the-table : HandsUpAtTable
-unfolding answerAt
+unfolding madeAt
 hands-up-at-the-table table slot now message out = go (badSlot (length table) slot)
   where
-    answered : Bool → Answer
-    answered bad = when bad answer refusal else answerOf (receiveOutcome (recordAt table slot) now message (length out)) []
+    left : Bool → LeftAt
+    left bad = when bad answer leavesAt (refusal 101) table out else storedAt table slot (made Call.Receive (recordAt table slot) now message out)
 
-    go : (bad : Bool) → HandsUp (recordAt table slot) message (answered bad .number) (answered bad .delivered)
+    go : (bad : Bool) → HandsUp (recordAt table slot) message (left bad .answer .number) (left bad .answer .delivered)
     go true = refusal-hands-up (recordAt table slot) message
     go false = hands-up (recordAt table slot) now message (length out)
 
@@ -56,11 +56,11 @@ pub demand-3-at-the-table : Demand3AtTable
 demand-3-at-the-table W began j slot role settings t table run log last x o u next band message out h s w m =
     let c : Connection = recordAt table slot in
     let y : SlotHistory W began slot role settings t table log last = slots-are-histories W began slot role settings t table run log last x in
-    let a : Answer = answerTo table slot (receive (countOf (W .ours u)) message out) in
+    let a : Answer = madeAt table slot Call.Receive (countOf (W .ours u)) message out .answer in
     let claim : Claim W began j role settings log last c u message (length out) h m =
     demand-3 W began j role settings log last c (y .history) o u (W .early-trans last t u (y .last-before) next) band message (length out) h s w m in
-    let same : receiveOutcome c (countOf (W .ours u)) message (length out) .answer ≡ a .number =
-    sym (promises table slot (receive (countOf (W .ours u)) message out) .same-number (y .good-slot)) in
+    let same : receiveOutcome c (countOf (W .ours u)) message (length out) .number ≡ a .number =
+    sym (promises table slot Call.Receive (countOf (W .ours u)) message out .same-number (y .good-slot)) in
     let up : HandsUp c message (a .number) (a .delivered) = hands-up-at-the-table table slot (countOf (W .ours u)) message out in
     let age : (first : Ours W) → Written W 0 first log → trueAge W (m .sent) u + settings .e + j + transit W first < 2 ^ 31
     → AgeClaim settings (trueAge W (m .sent) u) j (transit W first) (messageAge c (countOf (W .ours u)) h) c (a .number) =

@@ -12,8 +12,7 @@ use Rattle.connection.specs.Connection.{opened}
 use Rattle.what_follows.specs.declared.Outcome.{Outcome}
 use Rattle.calls.specs.declared.Call.{Call}
 use Rattle.calls.specs.Calls.{initiator, ruleOf, outcomeOf, given}
-use Rattle.table.specs.Left.{LeftAt}
-use Rattle.table.specs.Table.{badSlot, recordAt, madeAt}
+use Rattle.table.specs.Table.{badSlot, recordAt, LeftAt, madeAt}
 use Rattle.true_age.specs.Clocks.{World, countOf}
 use Rattle.true_age.specs.History.{Ours, withWritten, JudgedBytes, History}
 
