@@ -16,6 +16,9 @@ use recording::Progress;
 use text::Chosen;
 use window::Refilled;
 
+// The longest word that an argument is held against has fewer bytes.
+const MOST_WORD: usize = 16;
+
 // More turns than any run takes.
 const MOST_TURNS: u64 = 0xFFFF_FFFF_FFFF_FFFE;
 
@@ -277,7 +280,7 @@ fn cut_named(state: State) {
 
 // Which of two words an argument is. A longer one is neither.
 fn chosen(i: usize, first: &[u8], second: &[u8]) -> Chosen {
-    let mut word = [0u8; 16];
+    let mut word = [0u8; MOST_WORD];
     let size = os::arg(i, &mut word);
     text::choose(&word[..size], first, second)
 }
