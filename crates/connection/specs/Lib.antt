@@ -1,1 +1,2 @@
 pub mod Connection
+pub mod Row
