@@ -1,4 +1,4 @@
--- What a call on a slot leaves. It stands apart, as `answer` is a word of the rows in Table.antt.
+-- What a call on a slot leaves; apart from Table.antt, as `answer` is a word of its rows.
 use Prim.Native.Nat.{ℕ}
 use mathlib.Core.List.{List}
 use Rattle.connection.specs.declared.Connection.{Connection}
@@ -10,5 +10,6 @@ pub record LeftAt : Type 0 where
   pub table : List Connection
   pub out : List ℕ
 
+-- these three, where they are written out
 abbrev pub leavesAt : Answer → List Connection → List ℕ → LeftAt
 leavesAt answer table out = record { answer = answer; table = table; out = out }

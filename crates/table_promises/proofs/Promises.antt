@@ -1,4 +1,4 @@
--- The promises of the table, over any of the five calls.
+-- The promises of the table, of any call on any slot.
 -- Assumes nothing.
 use Prim.Native.Nat.{ℕ, _<_}
 use mathlib.Core.Path.{_≡_, refl, sym, subst, _∙_, ap}
@@ -10,82 +10,27 @@ use borrow.Author.Tests.{eqb-true, eqb-false}
 use lib.Dec.{T, eqb}
 use lib.ListN.{length, set, getD, length-set}
 use lib.Seq.{sets, getD-set-same, getD-set-other, set-getD}
+use Rattle.clock.specs.declared.Count.{Count}
 use Rattle.connection.specs.declared.Connection.{Connection}
 use Rattle.connection.specs.Connection.{allZero}
 use Rattle.what_follows.specs.declared.Outcome.{Outcome}
 use Rattle.what_follows.specs.declared.Reply.{Reply}
-use Rattle.calls.specs.declared.Answer.{Answer}
-use Rattle.calls.specs.Calls.{answerOf, outAfter, replyBytes}
+use Rattle.calls.specs.declared.Call.{Call}
+use Rattle.calls.specs.Calls.{ruleOf, outcomeOf, replyBytes, refusal, made}
 use Rattle.promises.specs.Promises.{_among_, callersFault, Unchanged, Valid, Stays}
-use Rattle.promises.proofs.Promises.{
-  begin-number,
-  receive-number,
-  send-number,
-  tick-number,
-  close-number,
-  begin-refusal-changes-nothing,
-  receive-refusal-changes-nothing,
-  send-refusal-changes-nothing,
-  tick-refusal-changes-nothing,
-  close-refusal-changes-nothing,
-}
-use Rattle.promises.proofs.Valid.{begin-stays, receive-stays, send-stays, tick-stays, close-stays}
-use Rattle.table.specs.Table.{badSlot, recordAt, refusal, answerAt, tableAfter, outAt}
-use Rattle.table.specs.Promises.{
-  Call,
-  begin,
-  receive,
-  send,
-  tick,
-  close,
-  outcomeOf,
-  lentTo,
-  outBefore,
-  numbersOf,
-  answerTo,
-  tableThen,
-  outThen,
-  ChangesNoOther,
-  OnOthers,
-  LeftAsItWas,
-  Agree,
-  SameThere,
-  Untouched,
-  AllValid,
-  Promises,
-}
+use Rattle.promises.proofs.Promises.{call-number, call-refusal-changes-nothing}
+use Rattle.promises.proofs.Valid.{call-stays}
+use Rattle.table.specs.Table.{badSlot, recordAt, LeftAt, leavesAt, storedAt, madeAt}
 use Rattle.table.proofs.Slot.{in-range}
-
--- ---- what the promises of the calls on one record say of any call
-
-outcome-listed : (call : Call) (c : Connection) → outcomeOf call c .answer among numbersOf call ≡ true
-outcome-listed (begin role settings first period now out) c = begin-number c role settings first period now (length out)
-outcome-listed (receive now message out) c = receive-number c now message (length out)
-outcome-listed (send now lent out) c = send-number c now (length lent) (length out)
-outcome-listed (tick now) c = tick-number c now
-outcome-listed close c = close-number c
-
-outcome-fair : (call : Call) (c : Connection) → callersFault (outcomeOf call c .answer) ≡ true → Unchanged c (outcomeOf call c)
-outcome-fair (begin role settings first period now out) c = begin-refusal-changes-nothing c role settings first period now (length out)
-outcome-fair (receive now message out) c = receive-refusal-changes-nothing c now message (length out)
-outcome-fair (send now lent out) c = send-refusal-changes-nothing c now (length lent) (length out)
-outcome-fair (tick now) c = tick-refusal-changes-nothing c now
-outcome-fair close c = close-refusal-changes-nothing c
-
-outcome-stays : (call : Call) (c : Connection) → Valid c → Stays (outcomeOf call c)
-outcome-stays (begin role settings first period now out) c = begin-stays c role settings first period now (length out)
-outcome-stays (receive now message out) c = receive-stays c now message (length out)
-outcome-stays (send now lent out) c = send-stays c now (length lent) (length out)
-outcome-stays (tick now) c = tick-stays c now
-outcome-stays close c = close-stays c
+use Rattle.table_promises.specs.Promises.{ChangesNoOther, OnOthers, LeftAsItWas, Agree, SameThere, Untouched, AllValid, Promises}
 
 -- 101 is one of the numbers of every call
-listed-101 : (call : Call) → 101 among numbersOf call ≡ true
-listed-101 (begin role settings first period now out) = refl
-listed-101 (receive now message out) = refl
-listed-101 (send now lent out) = refl
-listed-101 (tick now) = refl
-listed-101 close = refl
+listed-101 : (call : Call) → 101 among ruleOf call .numbers ≡ true
+listed-101 (Call.Begin g) = refl
+listed-101 Call.Receive = refl
+listed-101 Call.Send = refl
+listed-101 Call.Tick = refl
+listed-101 Call.Close = refl
 
 -- a record that a call leaves is valid, released or not
 next-valid : (o : Outcome) → Stays o → Valid (o .next)
@@ -104,80 +49,69 @@ either : {P : Type 0} (b : Bool) → (b ≡ true → P) → (b ≡ false → P) 
 either true f g = f refl
 either false f g = g refl
 
-module _ (table : List Connection) (slot : ℕ) (call : Call) where
-  -- what the call comes to on that slot's record
+module _ (table : List Connection) (slot : ℕ) (call : Call) (now : Count) (lent out : List ℕ) where
+  -- what the call comes to on that slot's record, and what it leaves
   abbrev comes : Outcome
-  comes = outcomeOf call (recordAt table slot)
+  comes = outcomeOf call (recordAt table slot) now lent (length out)
 
-  -- ---- what is said of a slot that is refused, and of one that is not
+  abbrev left : LeftAt
+  left = madeAt table slot call now lent out
 
-  refused-answer : badSlot (length table) slot ≡ true → answerTo table slot call ≡ refusal
-  unfolding answerAt
-  refused-answer e = rw e
+  -- ---- what is left where the slot is refused, and where it is not
 
-  refused-table : badSlot (length table) slot ≡ true → tableThen table slot call ≡ table
-  unfolding tableAfter
-  refused-table e = rw e
+  refused : badSlot (length table) slot ≡ true → left ≡ leavesAt (refusal 101) table out
+  unfolding madeAt
+  refused e = rw e
 
-  refused-out : badSlot (length table) slot ≡ true → outThen table slot call ≡ outBefore call
-  unfolding outAt
-  refused-out e = rw e
-
-  taken-answer : badSlot (length table) slot ≡ false → answerTo table slot call ≡ answerOf comes (lentTo call)
-  unfolding answerAt
-  taken-answer e = rw e
-
-  taken-table : badSlot (length table) slot ≡ false → tableThen table slot call ≡ set table slot (comes .next)
-  unfolding tableAfter
-  taken-table e = rw e
-
-  taken-out : badSlot (length table) slot ≡ false → outThen table slot call ≡ outAfter comes (lentTo call) (outBefore call)
-  unfolding outAt
-  taken-out e = rw e
+  taken : badSlot (length table) slot ≡ false → left ≡ storedAt table slot (made call (recordAt table slot) now lent out)
+  unfolding madeAt
+  taken e = rw e
 
   -- ---- isolation
 
-  changes-no-other : ChangesNoOther table slot (tableThen table slot call)
+  changes-no-other : ChangesNoOther table slot (left .table)
   changes-no-other = either (badSlot (length table) slot)
-      (λ e. subst (ChangesNoOther table slot) (sym (refused-table e)) (record { same-size = refl; same-others = λ other d _. refl }))
-      (λ e. subst (ChangesNoOther table slot) (sym (taken-table e)) (record {
+      (λ e. subst (λ (l : LeftAt). ChangesNoOther table slot (l .table)) (sym (refused e)) (record { same-size = refl; same-others = λ other d _. refl }))
+      (λ e. subst (λ (l : LeftAt). ChangesNoOther table slot (l .table)) (sym (taken e)) (record {
         same-size = length-set table slot (comes .next);
         same-others = λ other d n. getD-set-other table slot other (comes .next) d n;
       }))
 
-  next-there : recordAt (tableThen table slot call) slot ≡ (when badSlot (length table) slot answer recordAt table slot else comes .next)
+  -- the slot's next record, the answer and the out buffer, by whether the slot is refused
+  next-there : recordAt (left .table) slot ≡ (when badSlot (length table) slot answer recordAt table slot else comes .next)
   next-there = either (badSlot (length table) slot)
-      (λ e. rw e (ap (λ (t : List Connection). recordAt t slot) (refused-table e)))
-      (λ e. rw e (ap (λ (t : List Connection). recordAt t slot) (taken-table e) ∙ getD-set-same table slot (comes .next) allZero (inside (length table) slot e)))
+      (λ e. rw e (ap (λ (l : LeftAt). recordAt (l .table) slot) (refused e)))
+      (λ e. rw e (ap (λ (l : LeftAt). recordAt (l .table) slot) (taken e) ∙ getD-set-same table slot (comes .next) allZero (inside (length table) slot e)))
+
+  answer-there : left .answer ≡ (when badSlot (length table) slot answer refusal 101 else made call (recordAt table slot) now lent out .called .answer)
+  answer-there = either (badSlot (length table) slot) (λ e. rw e (ap (λ (l : LeftAt). l .answer) (refused e))) (λ e. rw e (ap (λ (l : LeftAt). l .answer) (taken e)))
+
+  out-there : left .out ≡ (when badSlot (length table) slot answer out else made call (recordAt table slot) now lent out .out)
+  out-there = either (badSlot (length table) slot) (λ e. rw e (ap (λ (l : LeftAt). l .out) (refused e))) (λ e. rw e (ap (λ (l : LeftAt). l .out) (taken e)))
 
   -- ---- the numbers, and demand 1
 
-  number-listed : answerTo table slot call .number among numbersOf call ≡ true
-  number-listed = either (badSlot (length table) slot) (λ e. rw (refused-answer e) (listed-101 call)) (λ e. rw (taken-answer e) (outcome-listed call (recordAt table slot)))
+  number-listed : left .answer .number among ruleOf call .numbers ≡ true
+  number-listed = either (badSlot (length table) slot)
+      (λ e. subst (λ (l : LeftAt). l .answer .number among ruleOf call .numbers ≡ true) (sym (refused e)) (listed-101 call))
+      (λ e. subst (λ (l : LeftAt). l .answer .number among ruleOf call .numbers ≡ true) (sym (taken e)) (call-number call (recordAt table slot) now lent (length out)))
 
-  refused-untouched : badSlot (length table) slot ≡ true → Untouched table slot call
-  refused-untouched e =
+  taken-untouched : Unchanged (recordAt table slot) comes → Untouched table out (storedAt table slot (made call (recordAt table slot) now lent out))
+  taken-untouched u =
       record {
-        same-table = refused-table e;
-        same-out = refused-out e;
-        nothing-written = ap (λ (a : Answer). a .written) (refused-answer e);
-        nothing-delivered = ap (λ (a : Answer). a .delivered) (refused-answer e);
-        not-released = ap (λ (a : Answer). a .released) (refused-answer e);
+        same-table = ap (λ (c : Connection). set table slot c) (u .same-record) ∙ set-getD table slot allZero;
+        same-out = ap (λ (r : Reply). sets out 0 (replyBytes r lent)) (u .nothing-written);
+        nothing-written = ap (λ (r : Reply). length (replyBytes r lent)) (u .nothing-written);
+        nothing-delivered = u .nothing-delivered;
+        not-released = u .not-released;
       }
 
-  taken-untouched : badSlot (length table) slot ≡ false → Unchanged (recordAt table slot) comes → Untouched table slot call
-  taken-untouched e u =
-      record {
-        same-table = taken-table e ∙ ap (λ (c : Connection). set table slot c) (u .same-record) ∙ set-getD table slot allZero;
-        same-out = taken-out e ∙ ap (λ (r : Reply). sets (outBefore call) 0 (replyBytes r (lentTo call))) (u .nothing-written);
-        nothing-written = ap (λ (a : Answer). a .written) (taken-answer e) ∙ ap (λ (r : Reply). length (replyBytes r (lentTo call))) (u .nothing-written);
-        nothing-delivered = ap (λ (a : Answer). a .delivered) (taken-answer e) ∙ u .nothing-delivered;
-        not-released = ap (λ (a : Answer). a .released) (taken-answer e) ∙ u .not-released;
-      }
-
-  refusal-changes-nothing : callersFault (answerTo table slot call .number) ≡ true → Untouched table slot call
-  refusal-changes-nothing f = either (badSlot (length table) slot) refused-untouched
-      (λ e. taken-untouched e (outcome-fair call (recordAt table slot) (subst (λ (a : Answer). callersFault (a .number) ≡ true) (taken-answer e) f)))
+  refusal-changes-nothing : callersFault (left .answer .number) ≡ true → Untouched table out left
+  refusal-changes-nothing f = either (badSlot (length table) slot)
+      (λ e. subst (Untouched table out) (sym (refused e))
+      (record { same-table = refl; same-out = refl; nothing-written = refl; nothing-delivered = refl; not-released = refl }))
+      (λ e. subst (Untouched table out) (sym (taken e)) (taken-untouched
+      (call-refusal-changes-nothing call (recordAt table slot) now lent (length out) (subst (λ (l : LeftAt). callersFault (l .answer .number) ≡ true) (taken e) f))))
 
   -- ---- every record stays closed or valid
 
@@ -186,49 +120,49 @@ module _ (table : List Connection) (slot : ℕ) (call : Call) where
       (λ e. subst Valid (sym (ap (λ (j : ℕ). getD (set table slot y) j allZero) (eqb-true k slot e) ∙ getD-set-same table slot y allZero l)) v)
       (λ e. subst Valid (sym (getD-set-other table slot k y allZero (eqb-false k slot e))) (all k (subst (λ (n : ℕ). k < n) (length-set table slot y) m)))
 
-  stays-valid : AllValid table → AllValid (tableThen table slot call)
+  stays-valid : AllValid table → AllValid (left .table)
   stays-valid all = either (badSlot (length table) slot)
-      (λ e. subst AllValid (sym (refused-table e)) all)
-      (λ e. subst AllValid (sym (taken-table e)) (set-valid (comes .next) (inside (length table) slot e)
-      (next-valid comes (outcome-stays call (recordAt table slot) (all slot (inside (length table) slot e)))) all))
+      (λ e. subst (λ (l : LeftAt). AllValid (l .table)) (sym (refused e)) all)
+      (λ e. subst (λ (l : LeftAt). AllValid (l .table)) (sym (taken e)) (set-valid (comes .next) (inside (length table) slot e)
+      (next-valid comes (call-stays call (recordAt table slot) now lent (length out) (all slot (inside (length table) slot e)))) all))
 
-  released-is-zero : Valid (recordAt table slot) → answerTo table slot call .released ≡ true → recordAt (tableThen table slot call) slot ≡ allZero
+  released-is-zero : Valid (recordAt table slot) → left .answer .released ≡ true → recordAt (left .table) slot ≡ allZero
   released-is-zero v r = either (badSlot (length table) slot)
-      (λ e. absurd (subst T (sym r ∙ ap (λ (a : Answer). a .released) (refused-answer e)) tt))
-      (λ e. next-there ∙ rw e (outcome-stays call (recordAt table slot) v .zero (sym (ap (λ (a : Answer). a .released) (taken-answer e)) ∙ r)))
+      (λ e. absurd (subst T (sym r ∙ ap (λ (l : LeftAt). l .answer .released) (refused e)) tt))
+      (λ e. next-there ∙ rw e (call-stays call (recordAt table slot) now lent (length out) v .zero (sym (ap (λ (l : LeftAt). l .answer .released) (taken e)) ∙ r)))
 
 -- two tables that agree at that slot
-reads-no-other : (slot : ℕ) (call : Call) (one two : List Connection) → Agree slot one two → SameThere slot call one two
-unfolding answerAt outAt
-reads-no-other slot call one two agree =
-    record {
-      same-answer = rw (agree .same-slot, agree .same-record);
-      same-next = next-there one slot call ∙ same ∙ sym (next-there two slot call);
-      same-out = rw (agree .same-slot, agree .same-record);
-    }
-  where
-    same : (when badSlot (length one) slot answer recordAt one slot else outcomeOf call (recordAt one slot) .next)
-        ≡ (when badSlot (length two) slot answer recordAt two slot else outcomeOf call (recordAt two slot) .next)
-    same = rw (agree .same-slot, agree .same-record)
+module _ (slot : ℕ) (call : Call) (now : Count) (lent out : List ℕ) (one two : List Connection) (agree : Agree slot one two) where
+  alike : {X : Type 0} (f g : Connection → X) → (when badSlot (length one) slot answer f (recordAt one slot) else g (recordAt one slot))
+      ≡ (when badSlot (length two) slot answer f (recordAt two slot) else g (recordAt two slot))
+  alike f g = rw (agree .same-slot, agree .same-record)
+
+  reads-no-other : SameThere slot (madeAt one slot call now lent out) (madeAt two slot call now lent out)
+  reads-no-other =
+      record {
+        same-answer = answer-there one slot call now lent out ∙ alike (λ c. refusal 101) (λ c. made call c now lent out .called .answer) ∙ sym (answer-there two slot call now lent out);
+        same-next = next-there one slot call now lent out ∙ alike (λ c. c) (λ c. outcomeOf call c now lent (length out) .next) ∙ sym (next-there two slot call now lent out);
+        same-out = out-there one slot call now lent out ∙ alike (λ c. out) (λ c. made call c now lent out .out) ∙ sym (out-there two slot call now lent out);
+      }
 
 -- calls on other slots leave the record
 pub others-leave-it : (slot : ℕ) (table : List Connection) {after : List Connection} → OnOthers slot table after → LeftAsItWas slot table after
 others-leave-it slot table OnOthers.none = record { same-size = refl; same-record = refl }
-others-leave-it slot table (OnOthers.after {before} x other call n) =
-    let left : LeftAsItWas slot table before = others-leave-it slot table x in
-    let kept : ChangesNoOther before other (tableThen before other call) = changes-no-other before other call in
-    record { same-size = kept .same-size ∙ left .same-size; same-record = kept .same-others slot allZero (λ e. n (sym e)) ∙ left .same-record }
+others-leave-it slot table (OnOthers.after {before} x other call now lent out n) =
+    let there : LeftAsItWas slot table before = others-leave-it slot table x in
+    let kept : ChangesNoOther before other (madeAt before other call now lent out .table) = changes-no-other before other call now lent out in
+    record { same-size = kept .same-size ∙ there .same-size; same-record = kept .same-others slot allZero (λ e. n (sym e)) ∙ there .same-record }
 
 -- any table, slot and call
-pub promises : (table : List Connection) (slot : ℕ) (call : Call) → Promises table slot call
-promises table slot call =
+pub promises : (table : List Connection) (slot : ℕ) (call : Call) (now : Count) (lent out : List ℕ) → Promises table slot call now lent out
+promises table slot call now lent out =
     record {
-      next-record = λ e. next-there table slot call ∙ rw e refl;
-      same-number = λ e. ap (λ (a : Answer). a .number) (taken-answer table slot call e);
-      changes-no-other = changes-no-other table slot call;
-      reads-no-other = λ other. reads-no-other slot call table other;
-      number-listed = number-listed table slot call;
-      refusal-changes-nothing = refusal-changes-nothing table slot call;
-      stays-valid = stays-valid table slot call;
-      released-is-zero = released-is-zero table slot call;
+      next-record = λ e. next-there table slot call now lent out ∙ rw e refl;
+      same-number = λ e. ap (λ (l : LeftAt). l .answer .number) (taken table slot call now lent out e);
+      changes-no-other = changes-no-other table slot call now lent out;
+      reads-no-other = λ other agree. reads-no-other slot call now lent out table other agree;
+      number-listed = number-listed table slot call now lent out;
+      refusal-changes-nothing = refusal-changes-nothing table slot call now lent out;
+      stays-valid = stays-valid table slot call now lent out;
+      released-is-zero = released-is-zero table slot call now lent out;
     }
