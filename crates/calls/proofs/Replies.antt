@@ -28,8 +28,7 @@ use Rattle.message.specs.Table.{
 }
 use Rattle.message.specs.Layout.{periodTail, dataTail}
 use Rattle.message.specs.Read.{laterStamp, checkOver, parsedOf}
-use Rattle.message.specs.Write.{allowedOf, writes, writtenOf, outOf}
-use Rattle.message.proofs.RoundTrip.{written-is-size}
+use Rattle.message_writing.specs.Writing.{allowedOf, writes, messageWritten}
 use Rattle.message.specs.declared.Header.{Header}
 use Rattle.message.specs.declared.Tail.{Tail}
 use Rattle.message.specs.declared.Parsed.{Parsed}
@@ -239,8 +238,8 @@ call-whole Call.Close c now lent room = silent-whole room (length lent) (closeOu
 -- ---- the writer
 
 pub put-is : (reply : Reply) (h : Header) (t : Tail) (lent out : List ℕ) → reply ≡ Send h t → writable reply (length out) (length lent) ≡ true
-    → (writtenOf (length out) h t (length lent) ≡ length (replyBytes reply lent)) × (outOf out h t lent ≡ sets out 0 (replyBytes reply lent))
-unfolding outOf
+    → messageWritten (length out) h t lent ≡ replyBytes reply lent
+unfolding messageWritten
 put-is reply h t lent out e w =
     let v : writes (length out) h t (length lent) ≡ true = rw e at w in
-    rw e (written-is-size out h t lent v, simp v)
+    rw e (simp v)

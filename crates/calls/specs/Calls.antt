@@ -11,7 +11,7 @@ use Rattle.clock.specs.declared.Count.{Count}
 use Rattle.message.specs.Table.{offsetStart, application, headerSize, startSize, estSize, mostData}
 use Rattle.message.specs.Layout.{periodTail, dataTail}
 use Rattle.message.specs.Read.{parsedOf, dataOf}
-use Rattle.message.specs.Write.{messageBytes, writes}
+use Rattle.message_writing.specs.Writing.{messageBytes, writes}
 use Rattle.message.specs.declared.Header.{Header}
 use Rattle.message.specs.declared.Parsed.{Parsed}
 use Rattle.connection.specs.declared.Settings.{Settings}

@@ -267,7 +267,7 @@ fn send_outcome(c: Connection, now: Count, size: usize, room: usize) -> Outcome
     }
     what_follows::sending(
         data_header(c, now),
-        Tail::with_data(size),
+        message::data_tail(size),
         c.clocked(now).sent(),
     )
 }
@@ -293,7 +293,7 @@ fn start_sent(g: Given, now: Count) -> Outcome
     let own = g.own;
     what_follows::sending(
         start_header(own.number, now),
-        Tail::with_period(own.period),
+        message::period_tail(own.period),
         Connection::begun(settings, own, INITIATOR_WAITS_FOR_2, now)
             .sent()
             .waiting(INITIATOR_WAITS_FOR_2, now),
@@ -341,7 +341,7 @@ fn put(reply: Reply, lent: &[u8], out: &mut [u8]) -> usize
 {
     match reply {
         Reply::Nothing => 0,
-        Reply::Send(h, t) => message::write(out, h, t, lent),
+        Reply::Send(h, t) => message_writing::write(out, h, t, lent),
     }
 }
 
@@ -441,7 +441,7 @@ pub fn close(c: Connection) -> Called
 pub fn delivered(message: &[u8], n: usize) -> &[u8]
     ensures { λ r. ⌜ (now r ≡ deliveredOf (now (message .entry)) n) × (r .ptr ≡ dataPlace (message .entry)) ⌝ }
 {
-    let data = message::data(message);
+    let data = message::data_of(message);
     if data.len() < n {
         return data;
     }

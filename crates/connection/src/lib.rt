@@ -260,7 +260,7 @@ impl Connection {
         ensures { λ r. ⌜ r ≡ sent self ⌝ }
     {
         let own = Own {
-            number: number::next(self.own.number),
+            number: number::next_of(self.own.number),
             period: self.own.period,
         };
         self.own = own;

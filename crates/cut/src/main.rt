@@ -4,7 +4,7 @@ ghost use mathlib.Core.Bool.{true, false};
 ghost use Prim.Native.Nat.{_+_, _^_, _≤_, _<_};
 ghost use lib.ListN.{length, take};
 ghost use Rattle.window.specs.Window.{Within};
-ghost use Rattle.links.specs.Promises.{mostBytes};
+ghost use Rattle.packet.specs.Sizes.{mostPacket};
 ghost use Rattle.recording.specs.Printed.{heading, mostLine};
 ghost use Rattle.recording.specs.Progress.{Lies};
 ghost use Rattle.recording.specs.Whole.{BothToppedUp, TurnOf, PrintedToTheEnd, PrintedWhole};
@@ -58,7 +58,7 @@ fn both_topped_up(
     p: Progress,
 ) -> Windows
     requires { ⌜ Lies p (length (now normal)) (length (now redundant)) ⌝ }
-    requires { ⌜ (mostBytes ≤ length (now normal)) × (mostBytes ≤ length (now redundant)) ⌝ }
+    requires { ⌜ (mostPacket ≤ length (now normal)) × (mostPacket ≤ length (now redundant)) ⌝ }
     ensures { λ r. ⌜ (r .failed ≡ false → BothToppedUp (now (normal .entry)) (now (redundant .entry)) p
         (now (normal .exit)) (now (redundant .exit)) (r .normal) (r .redundant)
         × Within (r .normal .window) (length (now (normal .entry))) × Within (r .redundant .window) (length (now (redundant .entry)))) ⌝ }
@@ -123,7 +123,7 @@ fn turn(
     p: Progress,
 ) -> Turned
     requires { ⌜ Lies p (length (now normal)) (length (now redundant)) ⌝ }
-    requires { ⌜ (mostBytes ≤ length (now normal)) × (mostBytes ≤ length (now redundant)) ⌝ }
+    requires { ⌜ (mostPacket ≤ length (now normal)) × (mostPacket ≤ length (now redundant)) ⌝ }
     requires { ⌜ (at ≤ length (now out)) × (mostLine ≤ length (now out)) ⌝ }
     requires { ⌜ p .«handed_up» + 1 < 2 ^ 64 ⌝ }
     ensures { λ r. ⌜ (r .failed ≡ false → TurnOf (now (normal .entry)) (now (redundant .entry)) p (now (out .entry)) at
@@ -169,7 +169,7 @@ fn cut_links(
     place: usize,
     state: State,
 )
-    requires { ⌜ (mostBytes ≤ length (now normal)) × (mostBytes ≤ length (now redundant)) ⌝ }
+    requires { ⌜ (mostPacket ≤ length (now normal)) × (mostPacket ≤ length (now redundant)) ⌝ }
     requires { ⌜ (place ≤ length (now out)) × (mostLine ≤ length (now out)) ⌝ }
     requires { ⌜ take place (now out) ≡ heading ⌝ }
 {
@@ -213,7 +213,7 @@ fn print_all(
     out: &mut [u8],
     state: State,
 )
-    requires { ⌜ (mostBytes ≤ length (now normal)) × (mostBytes ≤ length (now redundant)) ⌝ }
+    requires { ⌜ (mostPacket ≤ length (now normal)) × (mostPacket ≤ length (now redundant)) ⌝ }
     requires { ⌜ mostLine ≤ length (now out) ⌝ }
 {
     let at = recording::put_heading(out, 0);
@@ -311,5 +311,5 @@ fn main() {
             return;
         }
     };
-    cut_named(State::fresh(responder, strict));
+    cut_named(links::fresh_state(responder, strict));
 }

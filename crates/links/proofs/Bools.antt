@@ -1,4 +1,4 @@
--- What the value of a compound test says of its parts, and what holds of a row by its test.
+-- What the value of a compound test says of its parts, and what judgeable of a row by its test.
 -- Assumes nothing.
 use mathlib.Core.Path.{_≡_, refl, sym}
 use mathlib.Core.Bool.{Bool, true, false, not, _&&_, _||_, false≢true}
@@ -12,12 +12,12 @@ pub both-false : (a b : Bool) → (a || b) ≡ false → (a ≡ false) × (b ≡
 both-false true b e = absurd (false≢true (sym e))
 both-false false b e = (refl, e)
 
--- of a choice the second holds where the first does not
+-- of a choice the second judgeable where the first does not
 pub other-true : (a b : Bool) → (a || b) ≡ true → a ≡ false → b ≡ true
 other-true true b e f = absurd (false≢true (sym f))
 other-true false b e f = e
 
--- what holds of a row's answer where its test applies, and of the rows below where it does not, holds of all of them
+-- what judgeable of a row's answer where its test applies, and of the rows below where it does not, judgeable of all of them
 pub by-row : {A : Type 0} (P : A → Type 0) (test : Bool) {a rest : A} → (test ≡ true → P a) → (test ≡ false → P rest)
     → P (when test answer a else rest)
 by-row P true f g = f refl
@@ -31,7 +31,7 @@ second-false false b e f = absurd (false≢true f)
 pub not-of-false : (a : Bool) → a ≡ false → not a ≡ true
 not-of-false a e = simp e
 
--- what holds between the answers of two rows whose tests agree, and between the rows below, holds between the two
+-- what judgeable between the answers of two rows whose tests agree, and between the rows below, judgeable between the two
 pub by-rows-alike : {A : Type 0} (R : A → A → Type 0) (test test′ : Bool) {a a′ rest rest′ : A} → test ≡ test′ → (test ≡ true → R a a′)
     → (test ≡ false → R rest rest′) → R (when test answer a else rest) (when test′ answer a′ else rest′)
 by-rows-alike R true true e f g = f refl

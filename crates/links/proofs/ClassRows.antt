@@ -5,7 +5,7 @@ use mathlib.Core.Path.{_≡_}
 use mathlib.Core.Bool.{Bool, true, false}
 use mathlib.Core.List.{List}
 use Rattle.number.specs.Number.{distanceOf}
-use Rattle.packet.specs.Types.{inClassD}
+use Rattle.packet_types.specs.Types.{inClassD}
 use Rattle.packet.specs.declared.Header.{Header}
 use Rattle.links.specs.declared.State.{State}
 use Rattle.links.specs.Taken.{dropped, handedUp}

@@ -1,13 +1,6 @@
-pub mod Accepted
-pub mod Alike
+-- The laws of the table; the proofs of the functions stand beside them.
 pub mod Bools
-pub mod Cases
-pub mod ClassRows
-pub mod Forward
-pub mod Judgeable
+pub mod Judged
 pub mod LinkRows
-pub mod Outcome
-pub mod Promises
-pub mod Reader
-pub mod Seen
+pub mod ClassRows
 pub mod Step

@@ -1,13 +1,11 @@
 -- The rows of either class, one law a row: which tests pick it.
 -- Assumes nothing.
-use Prim.Native.Nat.{ℕ, _+_, _-_}
+use Prim.Native.Nat.{ℕ}
 use mathlib.Core.Path.{_≡_}
 use mathlib.Core.Bool.{Bool, true, false}
 use mathlib.Core.List.{List}
 use borrow.Author.Tests.{eq-eqb, ne-eqb}
-use lib.ListN.{take, drop}
-use Rattle.packet.specs.Sizes.{headerSize, leastLength}
-use Rattle.packet.specs.Packet.{headerOf, checkAt, dataOf, flagOf}
+use Rattle.packet.specs.Packet.{packetHeaderAt, checkAt, userDataAt, flagOf}
 use Rattle.packet.specs.declared.Header.{Header}
 use Rattle.links.specs.declared.State.{State}
 use Rattle.links.specs.declared.Taken.{Taken}
@@ -29,21 +27,21 @@ module _ (normal : Bool) (s : List ℕ) (at : ℕ) (state : State) (rest : Taken
   row-302 l = simp (b, l)
 
   module _ (l : lengthFault (lengthAt s at) ≡ false) where
-    pub row-303 : (headerOf s at .check ≡ checkAt s at → ⊥) → linkDown 303 normal state ≡ linkRows true normal s at state rest
+    pub row-303 : (packetHeaderAt s at .check ≡ checkAt s at → ⊥) → linkDown 303 normal state ≡ linkRows true normal s at state rest
     unfolding linkRows
     row-303 c = simp (b, l, ne-eqb _ _ c)
 
-    module _ (c : headerOf s at .check ≡ checkAt s at) where
-      pub row-304 : (headerOf s at .flag ≡ flagOf normal → ⊥) → linkDown 304 normal state ≡ linkRows true normal s at state rest
+    module _ (c : packetHeaderAt s at .check ≡ checkAt s at) where
+      pub row-304 : (packetHeaderAt s at .flag ≡ flagOf normal → ⊥) → linkDown 304 normal state ≡ linkRows true normal s at state rest
       unfolding linkRows
       row-304 f = simp (b, l, eq-eqb _ _ c, ne-eqb _ _ f)
 
-      pub row-class : headerOf s at .flag ≡ flagOf normal → rest ≡ linkRows true normal s at state rest
+      pub row-class : packetHeaderAt s at .flag ≡ flagOf normal → rest ≡ linkRows true normal s at state rest
       unfolding linkRows
       row-class f = simp (b, l, eq-eqb _ _ c, eq-eqb _ _ f)
 
 -- the rows of class D, of the header and the user data at a place
-pub class-at : (normal : Bool) (s : List ℕ) (at : ℕ) (state : State) (header : Header) (userData : List ℕ) → header ≡ headerOf s at
-    → userData ≡ take (header .length - leastLength) (drop (at + headerSize) s)
-    → classDRows normal at header userData state ≡ classDRows normal at (headerOf s at) (dataOf s at) state
+pub class-at : (normal : Bool) (s : List ℕ) (at : ℕ) (state : State) (header : Header) (userData : List ℕ) → header ≡ packetHeaderAt s at
+    → userData ≡ userDataAt s at
+    → classDRows normal at header userData state ≡ classDRows normal at (packetHeaderAt s at) (userDataAt s at) state
 class-at normal s at state header userData h u = cc

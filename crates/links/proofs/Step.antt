@@ -4,7 +4,7 @@ use Prim.Native.Nat.{ℕ}
 use mathlib.Core.Path.{_≡_, refl, _∙_}
 use mathlib.Core.Bool.{Bool, true, false}
 use mathlib.Core.List.{List}
-use Rattle.packet.specs.Packet.{headerOf, dataOf}
+use Rattle.packet.specs.Packet.{packetHeaderAt, userDataAt}
 use Rattle.links.specs.declared.State.{State}
 use Rattle.links.specs.Taken.{nothingChanges}
 use Rattle.links.specs.Table.{held, bothDown, classDRows, rowsOf, takenOf}
@@ -44,12 +44,12 @@ module _ (normal : List ℕ) (normalAt : ℕ) (redundant : List ℕ) (redundantA
     pub at-308 : bothDown state ≡ true → nothingChanges 308 state ≡ takenOf normal normalAt redundant redundantAt state
     at-308 b =
         row-308 (held (state .«redundant_up») redundant redundantAt) false redundant redundantAt state
-        (classDRows false redundantAt (headerOf redundant redundantAt) (dataOf redundant redundantAt) state) b
+        (classDRows false redundantAt (packetHeaderAt redundant redundantAt) (userDataAt redundant redundantAt) state) b
         ∙ past-normal
 
     pub at-301 : held (state .«redundant_up») redundant redundantAt ≡ false → bothDown state ≡ false
         → nothingChanges 301 state ≡ takenOf normal normalAt redundant redundantAt state
     at-301 e b =
         row-301 (held (state .«redundant_up») redundant redundantAt) false redundant redundantAt state
-        (classDRows false redundantAt (headerOf redundant redundantAt) (dataOf redundant redundantAt) state) b e
+        (classDRows false redundantAt (packetHeaderAt redundant redundantAt) (userDataAt redundant redundantAt) state) b e
         ∙ past-normal

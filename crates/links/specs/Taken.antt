@@ -2,14 +2,14 @@
 -- Assumes nothing.
 use Prim.Native.Nat.{ℕ, _+_, _-_}
 use mathlib.Core.Bool.{Bool, true, false, cond}
-use Rattle.packet.specs.Sizes.{headerSize, leastLength}
+use Rattle.packet.specs.Sizes.{packetHeaderSize, leastLength, packetSize}
 use Rattle.packet.specs.declared.Header.{Header}
 use Rattle.links.specs.declared.State.{State}
 use Rattle.links.specs.declared.Taken.{Taken}
 
--- LINK-FRESH
-abbrev pub freshOf : Bool → Bool → State
-freshOf responder strict = record {
+-- LINK-FRESH: both links up, and the first packet awaited
+abbrev pub freshState : Bool → Bool → State
+freshState responder strict = record {
   «normal_up» = true;
   «redundant_up» = true;
   responder = responder;
@@ -18,7 +18,7 @@ freshOf responder strict = record {
   last = 0;
 }
 
--- the state with that link down
+-- LINK-STAYS: the state with that link down
 abbrev pub downOf : Bool → State → State
 downOf normal state = record {
   «normal_up» = cond normal false (state .«normal_up»);
@@ -29,7 +29,7 @@ downOf normal state = record {
   last = state .last;
 }
 
--- the state that remembers the number of what is handed up
+-- LINK-0: the state that remembers the number of what is handed up
 abbrev pub rememberedOf : ℕ → State → State
 rememberedOf number state = record {
   «normal_up» = state .«normal_up»;
@@ -63,10 +63,6 @@ nothingChanges answer state = emptyPart answer true 0 state
 abbrev pub linkDown : ℕ → Bool → State → Taken
 linkDown answer normal state = emptyPart answer normal 0 (downOf normal state)
 
--- LINK-USED: all bytes of a packet, since the length counts those after its own field of 2
-abbrev pub packetSize : ℕ → ℕ
-packetSize length = length + 2
-
 -- LINK-305, LINK-309, LINK-306, LINK-307: used and dropped
 abbrev pub dropped : ℕ → Bool → Header → State → Taken
 dropped answer normal header state = emptyPart answer normal (packetSize (header .length)) state
@@ -77,7 +73,7 @@ handedUp normal at header state = record {
   answer = 0;
   normal = normal;
   used = packetSize (header .length);
-  start = at + headerSize;
+  start = at + packetHeaderSize;
   size = header .length - leastLength;
   version = header .version;
   application = header .application;

@@ -1,15 +1,21 @@
-// Taking one packet from two links: the table LINK-308 .. LINK-0 over two lent slices, a place in each, and a state that goes in and comes back by value.
+// Taking one packet from two links: the table LINK-308 .. LINK-0 over two lent slices, a place in each, and a state that goes in
+// and comes back by value.
 ghost use mathlib.Core.Path.{_≡_};
-ghost use mathlib.Core.Bool.{true, false, cond};
+ghost use mathlib.Core.Bool.{true, false};
 ghost use mathlib.Core.List.{List};
-ghost use Prim.Native.Nat.{ℕ, _+_, _-_, _^_, _≤_, _<_};
-ghost use lib.ListN.{length, take, drop};
-ghost use Rattle.packet.specs.Sizes.{headerSize, leastLength};
-ghost use Rattle.packet.specs.Types.{au1, au2, inClassD};
-ghost use Rattle.links.specs.Taken.{freshOf, emptyPart, linkDown, packetSize, dropped, handedUp};
+ghost use Prim.Native.Nat.{ℕ, _+_, _^_, _≤_, _<_};
+ghost use Rattle.packet.specs.Sizes.{packetHeaderSize, leastLength};
+ghost use Rattle.packet_types.specs.Types.{inClassD};
+ghost use Rattle.links.specs.Taken.{freshState, emptyPart, linkDown, dropped, handedUp};
 ghost use Rattle.links.specs.Place.{partPlace, userDataPlace};
-ghost use Rattle.links.specs.Table.{lengthFault, holds, held, bothDown, notOpening, notLater, tooFar, classDRows, rowsOf, takenOf, partOf, userDataOf};
+ghost use Rattle.links.specs.Table.{lengthFault, judgeable, held, bothDown, openingOf, notOpening, notLater, tooFar};
+ghost use Rattle.links.specs.Table.{classDRows, rowsOf, takenOf, partOf, userDataOf};
 use packet::Header;
+use packet_types::AU1;
+use packet_types::AU2;
+
+// LINK-306: from this d on a packet lies behind.
+const BEHIND_FROM: u16 = 32768;
 
 // The links that are up, the role, the setting, whether the first packet is still awaited, and the number last handed up.
 pub struct State {
@@ -21,7 +27,8 @@ pub struct State {
     pub last: u16,
 }
 
-// LINK-USED: what one step answers, the link that it names and how many of its bytes are used; of what is handed up its place in that link's slice, and its fields.
+// LINK-USED: what one step answers, the link that it names and how many of its bytes are used; of what is handed up its place in
+// that link's slice, and its fields.
 pub struct Taken {
     pub answer: u16,
     pub normal: bool,
@@ -35,23 +42,21 @@ pub struct Taken {
     pub state: State,
 }
 
-impl State {
-    // Both links up, and the first packet awaited.
-    pub fn fresh(responder: bool, strict: bool) -> State
-        ensures { λ r. ⌜ r ≡ freshOf responder strict ⌝ }
-    {
-        State {
-            normal_up: true,
-            redundant_up: true,
-            responder,
-            strict,
-            first: true,
-            last: 0,
-        }
+// LINK-FRESH: both links up, and the first packet awaited.
+pub fn fresh_state(responder: bool, strict: bool) -> State
+    ensures { λ r. ⌜ r ≡ freshState responder strict ⌝ }
+{
+    State {
+        normal_up: true,
+        redundant_up: true,
+        responder,
+        strict,
+        first: true,
+        last: 0,
     }
 }
 
-// LINK-EMPTY.
+// LINK-EMPTY: no part and no field of a packet.
 fn empty_part(answer: u16, normal: bool, used: usize, state: State) -> Taken
     ensures { λ r. ⌜ r ≡ emptyPart answer normal used state ⌝ }
 {
@@ -83,15 +88,16 @@ fn link_down(answer: u16, normal: bool, state: State) -> Taken
 }
 
 // LINK-305, LINK-309, LINK-306, LINK-307: used and dropped.
-fn drop_packet(answer: u16, normal: bool, header: Header, state: State) -> Taken
+fn dropped(answer: u16, normal: bool, header: Header, state: State) -> Taken
     ensures { λ r. ⌜ r ≡ dropped answer normal header state ⌝ }
 {
-    empty_part(answer, normal, header.length as usize + 2, state)
+    let used = header.length as usize + packet::LENGTH_SIZE;
+    empty_part(answer, normal, used, state)
 }
 
 // LINK-0: handed up, and its number remembered.
-fn hand_up(normal: bool, at: usize, header: Header, state: State) -> Taken
-    requires { ⌜ (leastLength ≤ header .length) × (at + headerSize < 2 ^ 64) ⌝ }
+fn handed_up(normal: bool, at: usize, header: Header, state: State) -> Taken
+    requires { ⌜ (leastLength ≤ header .length) × (at + packetHeaderSize < 2 ^ 64) ⌝ }
     ensures { λ r. ⌜ r ≡ handedUp normal at header state ⌝ }
 {
     let mut after = state;
@@ -100,8 +106,8 @@ fn hand_up(normal: bool, at: usize, header: Header, state: State) -> Taken
     Taken {
         answer: 0,
         normal,
-        used: header.length as usize + 2,
-        start: at + packet::HEADER_SIZE,
+        used: header.length as usize + packet::LENGTH_SIZE,
+        start: at + packet::PACKET_HEADER_SIZE,
         size: (header.length - packet::LEAST_LENGTH) as usize,
         version: header.version,
         application: header.application,
@@ -121,38 +127,38 @@ fn length_fault(length: u16) -> bool
     packet::MOST_LENGTH < length
 }
 
-// LINK-LOOK: a length that is not allowed, or a packet to its last byte. LINK-PAST.
-fn holds(s: &[u8], at: usize) -> bool
-    ensures { λ r. ⌜ r ≡ holds (now (s .entry)) at ⌝ }
+// LINK-LOOK: a length fault that can be judged, or a whole packet; LINK-PAST: nothing past the end.
+fn judgeable(s: &[u8], at: usize) -> bool
+    ensures { λ r. ⌜ r ≡ judgeable (now (s .entry)) at ⌝ }
 {
     if s.len() < at {
         return false;
     }
     let left = s.len() - at;
-    if left < 2 {
+    if left < packet::LENGTH_SIZE {
         return false;
     }
     let length = field::read16(s, at);
     if length_fault(length) {
         return true;
     }
-    if left < length as usize + 2 {
+    if left < length as usize + packet::LENGTH_SIZE {
         return false;
     }
     true
 }
 
-// Such bytes on a link that is up.
+// LINK-301: such bytes on a link that is up.
 fn held(up: bool, s: &[u8], at: usize) -> bool
     ensures { λ r. ⌜ r ≡ held up (now (s .entry)) at ⌝ }
 {
     if up {
-        return holds(s, at);
+        return judgeable(s, at);
     }
     false
 }
 
-// LINK-308.
+// LINK-308: no link is up.
 fn both_down(state: State) -> bool
     ensures { λ r. ⌜ r ≡ bothDown state ⌝ }
 {
@@ -162,11 +168,11 @@ fn both_down(state: State) -> bool
     !state.redundant_up
 }
 
-// What opens a connection: AU1 to the responder, AU2 to the initiator.
+// LINK-309: what opens a connection, AU1 to the responder, AU2 to the initiator.
 fn opening_of(responder: bool) -> u8
-    ensures { λ r. ⌜ r ≡ cond responder au1 au2 ⌝ }
+    ensures { λ r. ⌜ r ≡ openingOf responder ⌝ }
 {
-    if responder { packet::AU1 } else { packet::AU2 }
+    if responder { AU1 } else { AU2 }
 }
 
 // LINK-309: no acceptable opening for the role.
@@ -176,20 +182,20 @@ fn not_opening(responder: bool, header: Header, data: &[u8]) -> bool
     if header.kind != opening_of(responder) {
         return true;
     }
-    packet::opening_fault(header.kind, header.number, data)
+    packet_types::opening_fault(header.kind, header.number, data)
 }
 
 // LINK-306: opens again, repeats or lies behind.
 fn not_later(kind: u8, d: u16) -> bool
     ensures { λ r. ⌜ r ≡ notLater kind d ⌝ }
 {
-    if packet::opens(kind) {
+    if packet_types::opens(kind) {
         return true;
     }
     if d == 0 {
         return true;
     }
-    32768 <= d
+    BEHIND_FROM <= d
 }
 
 // LINK-307: leaves some out, where the setting is strict.
@@ -202,39 +208,41 @@ fn too_far(strict: bool, d: u16) -> bool
     false
 }
 
-// The rows of class D for the first packet: 309, 0.
+// LINK-309, LINK-0: the rows of class D for the first packet.
 fn first_packet(normal: bool, at: usize, header: Header, data: &[u8], state: State) -> Taken
-    requires { ⌜ (inClassD (header .kind) ≡ true) × (state .first ≡ true) × (leastLength ≤ header .length) × (at + headerSize < 2 ^ 64) ⌝ }
+    requires { ⌜ (inClassD (header .kind) ≡ true) × (state .first ≡ true)
+        × (leastLength ≤ header .length) × (at + packetHeaderSize < 2 ^ 64) ⌝ }
     ensures { λ r. ⌜ r ≡ classDRows normal at header (now («data» .entry)) state ⌝ }
 {
     if not_opening(state.responder, header, data) {
-        return drop_packet(309, normal, header, state);
+        return dropped(309, normal, header, state);
     }
-    hand_up(normal, at, header, state)
+    handed_up(normal, at, header, state)
 }
 
-// The rows of class D for a later packet: 306, 307, 0. They do not look at its user data.
+// LINK-306, LINK-307, LINK-0: the rows of class D for a later packet. They do not look at its user data.
 fn later_packet(normal: bool, at: usize, header: Header, state: State) -> Taken
-    requires { ⌜ (inClassD (header .kind) ≡ true) × (state .first ≡ false) × (leastLength ≤ header .length) × (at + headerSize < 2 ^ 64) ⌝ }
+    requires { ⌜ (inClassD (header .kind) ≡ true) × (state .first ≡ false)
+        × (leastLength ≤ header .length) × (at + packetHeaderSize < 2 ^ 64) ⌝ }
     ensures { λ r. ⌜ ((userData : List ℕ) → r ≡ classDRows normal at header userData state) ⌝ }
 {
-    let d = number::distance(header.number, state.last);
+    let d = number::distance_of(header.number, state.last);
     if not_later(header.kind, d) {
-        return drop_packet(306, normal, header, state);
+        return dropped(306, normal, header, state);
     }
     if too_far(state.strict, d) {
-        return drop_packet(307, normal, header, state);
+        return dropped(307, normal, header, state);
     }
-    hand_up(normal, at, header, state)
+    handed_up(normal, at, header, state)
 }
 
-// The rows of class D: 305, and those of the first packet or of a later one.
-fn class_d(normal: bool, at: usize, header: Header, data: &[u8], state: State) -> Taken
-    requires { ⌜ (leastLength ≤ header .length) × (at + headerSize < 2 ^ 64) ⌝ }
+// LINK-305, and the rows of the first packet or of a later one.
+fn class_d_rows(normal: bool, at: usize, header: Header, data: &[u8], state: State) -> Taken
+    requires { ⌜ (leastLength ≤ header .length) × (at + packetHeaderSize < 2 ^ 64) ⌝ }
     ensures { λ r. ⌜ r ≡ classDRows normal at header (now («data» .entry)) state ⌝ }
 {
-    if !packet::in_class_d(header.kind) {
-        return drop_packet(305, normal, header, state);
+    if !packet_types::in_class_d(header.kind) {
+        return dropped(305, normal, header, state);
     }
     if state.first {
         return first_packet(normal, at, header, data, state);
@@ -242,35 +250,31 @@ fn class_d(normal: bool, at: usize, header: Header, data: &[u8], state: State) -
     later_packet(normal, at, header, state)
 }
 
-// The user data of the whole packet at a place.
-fn data_at(s: &[u8], at: usize, counted: u16) -> &[u8]
-    requires { ⌜ (leastLength ≤ counted) × (at + packetSize counted ≤ length (now s)) ⌝ }
-    ensures { λ r. ⌜ now r ≡ take (counted - leastLength) (drop (at + headerSize) (now (s .entry))) ⌝ }
-{
-    let start = at + packet::HEADER_SIZE;
-    let end = at + (counted as usize + 2);
-    &s[start..end]
-}
-
-// The rows of the link looked at: 302, 303, 304, and those of the packet's class.
-fn looked(normal: bool, s: &[u8], at: usize, state: State) -> Taken
-    requires { ⌜ (bothDown state ≡ false) × (holds (now s) at ≡ true) ⌝ }
+// LINK-302, LINK-303, LINK-304, and the rows of the packet's class: of the link looked at.
+fn rows_of(normal: bool, s: &[u8], at: usize, state: State) -> Taken
+    requires { ⌜ (bothDown state ≡ false) × (judgeable (now s) at ≡ true) ⌝ }
     ensures { λ r. ⌜ r ≡ rowsOf true normal (now (s .entry)) at state ⌝ }
 {
     if length_fault(field::read16(s, at)) {
         return link_down(302, normal, state);
     }
-    let header = packet::header_at(s, at);
-    if header.check != packet::check(s, at) {
+    let header = packet::packet_header_at(s, at);
+    if header.check != packet::check_at(s, at) {
         return link_down(303, normal, state);
     }
-    if header.flag != packet::flag(normal) {
+    if header.flag != packet::flag_of(normal) {
         return link_down(304, normal, state);
     }
-    class_d(normal, at, header, data_at(s, at, header.length), state)
+    class_d_rows(
+        normal,
+        at,
+        header,
+        packet::user_data_at(s, at, header.length),
+        state,
+    )
 }
 
-// One step over two links.
+// LINK-LOOK: one step over two links, at the normal one first.
 pub fn take<'a>(
     normal: &'a [u8],
     normal_at: usize,
@@ -281,10 +285,10 @@ pub fn take<'a>(
     ensures { λ r. ⌜ r ≡ takenOf (now (normal .entry)) «normal_at» (now (redundant .entry)) «redundant_at» state ⌝ }
 {
     if held(state.normal_up, normal, normal_at) {
-        return looked(true, normal, normal_at, state);
+        return rows_of(true, normal, normal_at, state);
     }
     if held(state.redundant_up, redundant, redundant_at) {
-        return looked(false, redundant, redundant_at, state);
+        return rows_of(false, redundant, redundant_at, state);
     }
     if both_down(state) {
         return empty_part(308, true, 0, state);
@@ -292,8 +296,8 @@ pub fn take<'a>(
     empty_part(301, true, 0, state)
 }
 
-// A part of a slice, nothing where it does not lie within (LINK-MADE).
-fn part<'a>(s: &'a [u8], start: usize, size: usize) -> &'a [u8]
+// LINK-MADE: a part of a slice, nothing where it does not lie within.
+fn part_of<'a>(s: &'a [u8], start: usize, size: usize) -> &'a [u8]
     ensures { λ r. ⌜ (now r ≡ partOf (now (s .entry)) start size) × (r .ptr ≡ partPlace (s .entry) start size) ⌝ }
 {
     if s.len() < start {
@@ -307,7 +311,7 @@ fn part<'a>(s: &'a [u8], start: usize, size: usize) -> &'a [u8]
 }
 
 // The user data that a step hands up, a part of the normal or the redundant link's own slice (LINK-PART, LINK-EMPTY).
-pub fn user_data<'a>(normal: &'a [u8], redundant: &'a [u8], taken: Taken) -> &'a [u8]
+pub fn user_data_of<'a>(normal: &'a [u8], redundant: &'a [u8], taken: Taken) -> &'a [u8]
     ensures { λ r. ⌜ (now r ≡ userDataOf (now (normal .entry)) (now (redundant .entry)) taken)
         × (r .ptr ≡ userDataPlace (normal .entry) (redundant .entry) taken) ⌝ }
 {
@@ -315,81 +319,7 @@ pub fn user_data<'a>(normal: &'a [u8], redundant: &'a [u8], taken: Taken) -> &'a
         return &normal[..0];
     }
     if taken.normal {
-        return part(normal, taken.start, taken.size);
+        return part_of(normal, taken.start, taken.size);
     }
-    part(redundant, taken.start, taken.size)
-}
-
-// LINK-READER: the bytes that were lent, and a place in them.
-pub struct LinkReader<'a> {
-    pub bytes: &'a [u8],
-    pub at: usize,
-}
-
-// One step over two readers.
-pub fn take_from<'a>(normal: LinkReader<'a>, redundant: LinkReader<'a>, state: State) -> Taken
-    ensures { λ r. ⌜ r ≡ takenOf (now (normal .entry .bytes)) (normal .entry .at) (now (redundant .entry .bytes)) (redundant .entry .at) state ⌝ }
-{
-    take(
-        normal.bytes,
-        normal.at,
-        redundant.bytes,
-        redundant.at,
-        state,
-    )
-}
-
-// The user data that a step over two readers hands up.
-pub fn handed_up<'a>(normal: LinkReader<'a>, redundant: LinkReader<'a>, taken: Taken) -> &'a [u8]
-    ensures { λ r. ⌜ (now r ≡ userDataOf (now (normal .entry .bytes)) (now (redundant .entry .bytes)) taken)
-        × (r .ptr ≡ userDataPlace (normal .entry .bytes) (redundant .entry .bytes) taken) ⌝ }
-{
-    user_data(normal.bytes, redundant.bytes, taken)
-}
-
-// One step through two readers that are made of the slices and the places in them.
-pub fn take_by_readers<'a>(
-    normal: &'a [u8],
-    normal_at: usize,
-    redundant: &'a [u8],
-    redundant_at: usize,
-    state: State,
-) -> Taken
-    ensures { λ r. ⌜ r ≡ takenOf (now (normal .entry)) «normal_at» (now (redundant .entry)) «redundant_at» state ⌝ }
-{
-    take_from(
-        LinkReader {
-            bytes: normal,
-            at: normal_at,
-        },
-        LinkReader {
-            bytes: redundant,
-            at: redundant_at,
-        },
-        state,
-    )
-}
-
-// The user data that a step through such readers hands up.
-pub fn handed_up_by_readers<'a>(
-    normal: &'a [u8],
-    normal_at: usize,
-    redundant: &'a [u8],
-    redundant_at: usize,
-    taken: Taken,
-) -> &'a [u8]
-    ensures { λ r. ⌜ (now r ≡ userDataOf (now (normal .entry)) (now (redundant .entry)) taken)
-        × (r .ptr ≡ userDataPlace (normal .entry) (redundant .entry) taken) ⌝ }
-{
-    handed_up(
-        LinkReader {
-            bytes: normal,
-            at: normal_at,
-        },
-        LinkReader {
-            bytes: redundant,
-            at: redundant_at,
-        },
-        taken,
-    )
+    part_of(redundant, taken.start, taken.size)
 }

@@ -1,5 +1,4 @@
--- The laws of messages: every row of the table, the steps of the functions, the round trips, what is written.
+-- The laws of messages: every row of the table, the steps of taking apart, what an accepted message is.
 pub mod Rows
 pub mod Steps
-pub mod RoundTrip
-pub mod Written
+pub mod Accepted

@@ -1,39 +1,27 @@
--- The steps of taking apart and of writing, each from what the tests on the way say.
+-- The steps of taking apart, each from what the tests on the way say.
 -- Assumes nothing.
-use Prim.Native.Nat.{ℕ, _+_, _<_, _≤_, _^_}
-use mathlib.Core.Path.{_≡_, refl, ap, _∙_, sym, subst}
-use mathlib.Core.Bool.{Bool, true, false, not, _&&_}
+use Prim.Native.Nat.{ℕ, _<_}
+use mathlib.Core.Path.{_≡_, ap, _∙_}
+use mathlib.Core.Bool.{true, false}
 use mathlib.Core.List.{List}
-use native.Mathlib.Omega.{arith}
-use borrow.Author.Tests.{lt-leb, le-leb}
-use lib.Dec.{T}
 use lib.ListN.{length}
-use lib.Seq.{sets}
-use Rattle.field.specs.Field.{bytesOf}
-use Rattle.message.specs.Table.{tableOf, lists, totalOf}
-use Rattle.message.specs.Read.{headerOf, tailOf, laterStamp, checkOver, wholeOf, parsedOf}
-use Rattle.message.specs.Write.{headerBytes, afterBytes, countedOf, allowedOf, writes, writtenOf, outOf}
+use Rattle.message.specs.Table.{headerSize, tableOf, lists}
+use Rattle.message.specs.Read.{messageHeaderOf, tailOf, wholeOf, parsedOf}
 use Rattle.message.specs.declared.Header.{Header}
-use Rattle.message.specs.declared.Tail.{Tail}
 use Rattle.message.specs.declared.Listed.{Listed}
 use Rattle.message.specs.declared.Parsed.{Parsed}
 use Rattle.message.specs.declared.TailRead.{TailRead}
-use Rattle.message.proofs.Rows.{and-false, short, least-small, sized}
+use Rattle.message.proofs.Rows.{short}
 
--- a row's total fits
-pub room-for : (row : Listed) (type n : ℕ) → row ≡ tableOf type → n < 2 ^ 63 → row .least + n < 2 ^ 64
-room-for row type n e h = let l : row .least ≡ tableOf type .least = cc in omega (arith, least-small type)
-
--- ---- taking apart
-unlisted : (s : List ℕ) → lists (tableOf (headerOf s .kind)) (length s) ≡ false → parsedOf s ≡ Parsed.Malformed
+unlisted : (s : List ℕ) → lists (tableOf (messageHeaderOf s .kind)) (length s) ≡ false → parsedOf s ≡ Parsed.Malformed
 unfolding parsedOf
 unlisted s e = rw e
 
-pub parsed-short : (s : List ℕ) → length s < 15 → parsedOf s ≡ Parsed.Malformed
-parsed-short s h = unlisted s (short (headerOf s .kind) (length s) h)
+pub parsed-short : (s : List ℕ) → length s < headerSize → parsedOf s ≡ Parsed.Malformed
+parsed-short s h = unlisted s (short (messageHeaderOf s .kind) (length s) h)
 
-module _ (s : List ℕ) (h : Header) (row : Listed) (e : h ≡ headerOf s) (f : row ≡ tableOf (h .kind)) where
-  abbrev of-type : row ≡ tableOf (headerOf s .kind)
+module _ (s : List ℕ) (h : Header) (row : Listed) (e : h ≡ messageHeaderOf s) (f : row ≡ tableOf (h .kind)) where
+  abbrev of-type : row ≡ tableOf (messageHeaderOf s .kind)
   of-type = f ∙ ap (λ (h : Header). tableOf (h .kind)) e
 
   pub parsed-unlisted : lists row (length s) ≡ false → parsedOf s ≡ Parsed.Malformed
@@ -42,76 +30,3 @@ module _ (s : List ℕ) (h : Header) (row : Listed) (e : h ≡ headerOf s) (f : 
   pub parsed-listed : (read : TailRead) → read ≡ tailOf (row .after) s → lists row (length s) ≡ true → parsedOf s ≡ wholeOf h read
   unfolding parsedOf
   parsed-listed read q l = rw (q, of-type, e, rw of-type at l)
-
--- ---- writing
--- the parts of what is allowed
-pub record AllowedParts (h : Header) (t : Tail) (n : ℕ) : Type 0 where
-  pub total-listed : lists (tableOf (h .kind)) (totalOf (tableOf (h .kind)) n) ≡ true
-  pub stamps : laterStamp h ≡ false
-  pub check : checkOver (t .check) ≡ false
-  pub count : countedOf (tableOf (h .kind) .after) (t .«data») n ≡ true
-
-module _ (h : Header) (t : Tail) (n : ℕ) where
-  pub allowed-parts : allowedOf h t n ≡ true → AllowedParts h t n
-  unfolding allowedOf
-  allowed-parts e =
-      go (lists (tableOf (h .kind)) (totalOf (tableOf (h .kind)) n)) (laterStamp h) (checkOver (t .check))
-      refl refl refl e
-    where
-      go : (l b k : Bool) → lists (tableOf (h .kind)) (totalOf (tableOf (h .kind)) n) ≡ l → laterStamp h ≡ b → checkOver (t .check) ≡ k
-          → l && not b && not k && countedOf (tableOf (h .kind) .after) (t .«data») n ≡ true → AllowedParts h t n
-      go true false false p q r e = record { total-listed = p; stamps = q; check = r; count = e }
-      go true false true p q r e = absurd (subst T (sym e) tt)
-      go true true k p q r e = absurd (subst T (sym e) tt)
-      go false b k p q r e = absurd (subst T (sym e) tt)
-
-  pub parts-allowed : AllowedParts h t n → allowedOf h t n ≡ true
-  unfolding allowedOf
-  parts-allowed a = rw (a .total-listed, a .stamps, a .check) (a .count)
-
--- an allowed message has as many bytes as its total
-pub allowed-size : (h : Header) (t : Tail) (lent : List ℕ) → allowedOf h t (length lent) ≡ true
-    → 15 + length (afterBytes (tableOf (h .kind) .after) t lent) ≡ totalOf (tableOf (h .kind)) (length lent)
-allowed-size h t lent a = sized (h .kind) t lent (allowed-parts h t (length lent) a .total-listed)
-
-module _ (out : List ℕ) (h : Header) (t : Tail) (lent : List ℕ) where
-  -- what `write` answers, and what it leaves
-  abbrev Answer : ℕ → List ℕ → Type 0
-  Answer r done = (r ≡ writtenOf (length out) h t (length lent)) × (done ≡ outOf out h t lent)
-
-  nothing : writes (length out) h t (length lent) ≡ false → Answer 0 out
-  unfolding writtenOf outOf
-  nothing e = (rw e, rw e)
-
-  pub not-allowed : allowedOf h t (length lent) ≡ false → Answer 0 out
-  unfolding writes
-  not-allowed a = nothing (rw a)
-
-  total-of-type : (row : Listed) (total : ℕ) → row ≡ tableOf (h .kind) → total ≡ totalOf row (length lent)
-      → total ≡ totalOf (tableOf (h .kind)) (length lent)
-  total-of-type row total e f = f ∙ ap (λ (r : Listed). totalOf r (length lent)) e
-
-  pub no-room : (row : Listed) (total : ℕ) → row ≡ tableOf (h .kind) → total ≡ totalOf row (length lent) → length out < total → Answer 0 out
-  unfolding writes
-  no-room row total e f l =
-      nothing (rw (← (total-of-type row total e f), lt-leb total (length out) l) (and-false (allowedOf h t (length lent))))
-
-  -- what is known where the bytes are written
-  pub record Ready (row : Listed) (total : ℕ) : Type 0 where
-    pub row-is : row ≡ tableOf (h .kind)
-    pub total-is : total ≡ totalOf row (length lent)
-    pub allowed : allowedOf h t (length lent) ≡ true
-    pub room : total ≤ length out
-
-  module _ {row : Listed} {total : ℕ} (r : Ready row total) where
-    abbrev size-is : total ≡ totalOf (tableOf (h .kind)) (length lent)
-    size-is = total-of-type row total (r .row-is) (r .total-is)
-
-    pub after-fits : 15 + length (afterBytes (row .after) t lent) ≤ length out
-    after-fits = rw (r .row-is) (omega (arith, allowed-size h t lent (r .allowed), size-is, r .room))
-
-    pub written : {head done : List ℕ} → head ≡ sets out 0 (headerBytes h) → done ≡ sets head 15 (afterBytes (row .after) t lent) → Answer total done
-    unfolding writes writtenOf outOf bytesOf
-    written p q =
-        let w : writes (length out) h t (length lent) ≡ true = rw (r .allowed, ← size-is) (le-leb total (length out) (r .room)) in
-        (rw w size-is, rw (q, p, r .row-is, w))

@@ -16,11 +16,11 @@ use Rattle.message.specs.declared.After.the-variants.{Period, Nothing, O
 abbrev pub headerWidths : List ℕ
 headerWidths = 1 ∷ 2 ∷ 4 ∷ 4 ∷ 4 ∷ []
 
--- its fields, for writing
+-- MSG-HEAD: its fields, for writing
 abbrev pub headerFields : Header → List ℕ
 headerFields h = h .kind ∷ h .number ∷ h .stamp .0 ∷ h .«last_peer_stamp» .0 ∷ h .arrival .0 ∷ []
 
--- its fields, as read
+-- MSG-HEAD: its fields, as read
 abbrev pub headerFrom : List ℕ → Header
 headerFrom f =
     record {
@@ -35,7 +35,8 @@ headerFrom f =
 abbrev pub offsetWidths : List ℕ
 offsetWidths = 1 ∷ 4 ∷ []
 
--- after the header: MSG-1, MSG-2 period 4; MSG-3 nothing; MSG-4 sign 1, min 4, sign 1, max 4; MSG-5 check byte; MSG-6 data, which is no field
+-- after the header: MSG-1, MSG-2 period 4; MSG-3 nothing; MSG-4 sign 1, min 4, sign 1, max 4; MSG-5 check byte; MSG-6 data, which is
+-- no field
 abbrev pub widthsOf : After → List ℕ
 widthsOf Period = 4 ∷ []
 widthsOf Nothing = []
@@ -43,13 +44,15 @@ widthsOf Offsets = offsetWidths ++ offsetWidths
 widthsOf Check = 1 ∷ []
 widthsOf Data = []
 
+-- MSG-FIELDS: all that a message may have after its header
 abbrev pub tail : ℕ → Offset → Offset → ℕ → ℕ → Tail
 tail period min max check n = record { period = period; min = min; max = max; check = check; «data» = n }
 
+-- MSG-FIELDS: an offset that a type does not have
 abbrev pub noOffset : Offset
 noOffset = record { 0 = pos 0 }
 
--- MSG-FIELDS: what a type does not have is 0
+-- MSG-FIELDS: the tails of the types, what they do not have being 0
 abbrev pub periodTail : ℕ → Tail
 periodTail period = tail period noOffset noOffset 0 0
 
@@ -69,7 +72,7 @@ dataTail n = tail 0 noOffset noOffset 0 n
 abbrev pub offsetFields : Offset → List ℕ
 offsetFields offset = signMagnitudeOf (offset .0) .sign ∷ signMagnitudeOf (offset .0) .magnitude ∷ []
 
--- the fields after the header, for writing
+-- MSG-1 to MSG-5: the fields after the header, for writing
 abbrev pub afterFields : After → Tail → List ℕ
 afterFields Period t = t .period ∷ []
 afterFields Nothing t = []
@@ -83,7 +86,7 @@ offsetsFrom OffsetRead.Malformed max = TailRead.Malformed
 offsetsFrom (OffsetRead.Is min) OffsetRead.Malformed = TailRead.Malformed
 offsetsFrom (OffsetRead.Is min) (OffsetRead.Is max) = TailRead.Is (offsetsTail min max)
 
--- the fields after the header, as read; n is how many bytes stand after it
+-- MSG-1 to MSG-6: the fields after the header, as read; n is how many bytes stand after it
 abbrev pub tailFrom : After → List ℕ → ℕ → TailRead
 tailFrom Period f n = TailRead.Is (periodTail (getD f 0 0))
 tailFrom Nothing f n = TailRead.Is emptyTail

@@ -1,4 +1,4 @@
--- The table of message types: what stands after the 15-byte header, and the total.
+-- The table of message types: what stands after the header, and the total.
 use Prim.Native.Nat.{ℕ, _+_}
 use mathlib.Core.Bool.{Bool, _&&_}
 use lib.Dec.{eqb, leb, ltb}
@@ -9,27 +9,27 @@ use Rattle.message.specs.declared.Listed.{Listed}
 
 -- ---- the types, by their numbers
 
--- MSG-1
+-- MSG-1: the type of OffsetStart
 abbrev pub offsetStart : ℕ
 offsetStart = 1
 
--- MSG-2
+-- MSG-2: the type of OffsetAnsw1
 abbrev pub offsetAnsw1 : ℕ
 offsetAnsw1 = 2
 
--- MSG-3
+-- MSG-3: the type of OffsetAnsw2
 abbrev pub offsetAnsw2 : ℕ
 offsetAnsw2 = 3
 
--- MSG-4
+-- MSG-4: the type of OffsetEst
 abbrev pub offsetEst : ℕ
 offsetEst = 4
 
--- MSG-5
+-- MSG-5: the type of OffsetEnd
 abbrev pub offsetEnd : ℕ
 offsetEnd = 5
 
--- MSG-6
+-- MSG-6: the type of application data
 abbrev pub application : ℕ
 application = 6
 
@@ -51,7 +51,7 @@ estSize = 25
 abbrev pub endSize : ℕ
 endSize = 16
 
--- MSG-TOTAL
+-- MSG-TOTAL: the most bytes of a message
 abbrev pub mostMessage : ℕ
 mostMessage = 1000
 
@@ -59,28 +59,37 @@ mostMessage = 1000
 abbrev pub mostData : ℕ
 mostData = 985
 
-infixr 2 _total_to_
--- a row: what stands after the header, and the least and the most total
-abbrev pub _total_to_ : After → ℕ → ℕ → Listed
-after total least to most = record { after = after; least = least; most = most }
+-- MSG-SIGN: the bytes of an offset
+abbrev pub offsetSize : ℕ
+offsetSize = 5
 
--- MSG-1 OffsetStart, MSG-2 OffsetAnsw1, MSG-3 OffsetAnsw2, MSG-4 OffsetEst, MSG-5 OffsetEnd, MSG-6 application; MSG-TOTAL: 1,000 at most.
--- A type that is not listed has no total: none is at least 1 and at most 0.
+-- MSG-4: where max stands
+abbrev pub maxAt : ℕ
+maxAt = headerSize + offsetSize
+
+-- ---- the table
+
+-- MSG-LISTED: a row has what stands after the header, and the least and the most total
+abbrev pub messageRow : After → ℕ → ℕ → Listed
+messageRow after least most = record { after = after; least = least; most = most }
+
+-- MSG-1 to MSG-6, one row to a type; MSG-TOTAL bounds the last. A type that is not listed has no total: none is at least 1 and at
+-- most 0.
 unfoldable pub tableOf : ℕ → Listed
 tableOf type =
-    when eqb type 1 answer Period total 19 to 19 else
-    when eqb type 2 answer Period total 19 to 19 else
-    when eqb type 3 answer Nothing total 15 to 15 else
-    when eqb type 4 answer Offsets total 25 to 25 else
-    when eqb type 5 answer Check total 16 to 16 else
-    when eqb type 6 answer Data total 15 to 1000 else
-    (Nothing total 1 to 0)
+    when eqb type offsetStart answer messageRow Period startSize startSize else
+    when eqb type offsetAnsw1 answer messageRow Period startSize startSize else
+    when eqb type offsetAnsw2 answer messageRow Nothing headerSize headerSize else
+    when eqb type offsetEst answer messageRow Offsets estSize estSize else
+    when eqb type offsetEnd answer messageRow Check endSize endSize else
+    when eqb type application answer messageRow Data headerSize mostMessage else
+    messageRow Nothing 1 0
 
 -- MSG-LISTED: whether a row lists this size as a total
 unfoldable pub lists : Listed → ℕ → Bool
 lists row size = leb (row .least) size && leb size (row .most)
 
--- the total with n bytes of application data, which only a row of more than one total has
+-- MSG-TOTAL: the total with n bytes of application data, which only a row of more than one total has
 unfoldable pub totalOf : Listed → ℕ → ℕ
 totalOf row n =
     when ltb (row .least) (row .most) answer row .least + n else

@@ -1,13 +1,12 @@
-// Messages inside: the six types of message (MSG-1 to MSG-6), taken apart and written.
+// Messages inside: the six types of message (MSG-1 to MSG-6), and how bytes are taken apart.
 ghost use mathlib.Core.Path.{_≡_};
 ghost use Prim.Native.Nat.{_+_, _^_, _<_, _≤_};
 ghost use lib.ListN.{length};
-ghost use lib.Seq.{sets};
 ghost use Rattle.field.specs.Row.{widthOf};
-ghost use Rattle.message.specs.Table.{tableOf, lists, totalOf};
-ghost use Rattle.message.specs.Layout.{widthsOf, periodTail, emptyTail, offsetsTail, checkTail, dataTail, offsetsFrom};
-ghost use Rattle.message.specs.Read.{headerOf, tailOf, dataOf, dataPlace, offsetAt, laterStamp, checkOver, wholeOf, parsedOf};
-ghost use Rattle.message.specs.Write.{headerBytes, offsetBytes, afterBytes, countedOf, allowedOf, writtenOf, outOf};
+ghost use Rattle.message.specs.Table.{headerSize, offsetSize, messageRow, tableOf, lists, totalOf};
+ghost use Rattle.message.specs.Layout.{widthsOf, emptyTail, periodTail, offsetsTail, checkTail, dataTail, offsetsFrom};
+ghost use Rattle.message.specs.Read.{messageHeaderOf, offsetPairAt, tailOf, dataOf, dataPlace};
+ghost use Rattle.message.specs.Read.{laterStamp, checkOver, wholeOf, parsedOf};
 use clock::Count;
 use clock::Offset;
 use clock::OffsetRead;
@@ -25,7 +24,7 @@ pub const OFFSET_END: u8 = 5;
 
 pub const APPLICATION: u8 = 6;
 
-// The bytes that each message begins with (MSG-HEAD).
+// How many bytes each message begins with (MSG-HEAD).
 pub const HEADER_SIZE: usize = 15;
 
 // The totals of OffsetStart and OffsetAnsw1, of OffsetEst and of OffsetEnd.
@@ -40,7 +39,12 @@ pub const MOST_MESSAGE: usize = 1000;
 
 pub const MOST_DATA: usize = 985;
 
-// The 15 bytes that each message begins with (MSG-HEAD).
+// MSG-SIGN: an offset's sign and magnitude; MSG-4: min stands behind the header, max behind min.
+pub const OFFSET_SIZE: usize = 5;
+
+pub const MAX_AT: usize = HEADER_SIZE + OFFSET_SIZE;
+
+// What each message begins with (MSG-HEAD).
 pub struct Header {
     pub kind: u8,
     pub number: u16,
@@ -50,7 +54,8 @@ pub struct Header {
     pub arrival: Count,
 }
 
-// What a message holds after its header; data is how many bytes of application data. What its type does not have is 0 (MSG-FIELDS).
+// What a message has after its header; data is how many bytes of application data. What its type does not have is 0
+// (MSG-FIELDS).
 pub struct Tail {
     pub period: u32,
     pub min: Offset,
@@ -66,13 +71,13 @@ pub enum Parsed {
 }
 
 // A tail as read; Malformed by MSG-PAIR.
-enum TailRead {
+pub enum TailRead {
     Is(Tail),
     Malformed,
 }
 
 // What stands after the header, by the type's row.
-enum After {
+pub enum After {
     Period,
     Nothing,
     Offsets,
@@ -81,122 +86,83 @@ enum After {
 }
 
 // A row of the table of types, with the least and the most total.
-struct Listed {
-    after: After,
-    least: usize,
-    most: usize,
+pub struct Listed {
+    pub after: After,
+    pub least: usize,
+    pub most: usize,
 }
 
-// The tails that the types have.
-impl Tail {
-    pub fn with_period(period: u32) -> Tail
-        ensures { λ r. ⌜ r ≡ periodTail period ⌝ }
-    {
-        Tail {
-            period,
-            min: Offset(0),
-            max: Offset(0),
-            check: 0,
-            data: 0,
-        }
-    }
-
-    pub fn empty() -> Tail
-        ensures { λ r. ⌜ r ≡ emptyTail ⌝ }
-    {
-        Tail {
-            period: 0,
-            min: Offset(0),
-            max: Offset(0),
-            check: 0,
-            data: 0,
-        }
-    }
-
-    pub fn with_offsets(min: Offset, max: Offset) -> Tail
-        ensures { λ r. ⌜ r ≡ offsetsTail min max ⌝ }
-    {
-        Tail {
-            period: 0,
-            min,
-            max,
-            check: 0,
-            data: 0,
-        }
-    }
-
-    pub fn with_check(check: u8) -> Tail
-        ensures { λ r. ⌜ r ≡ checkTail check ⌝ }
-    {
-        Tail {
-            period: 0,
-            min: Offset(0),
-            max: Offset(0),
-            check,
-            data: 0,
-        }
-    }
-
-    pub fn with_data(data: usize) -> Tail
-        ensures { λ r. ⌜ r ≡ dataTail «data» ⌝ }
-    {
-        Tail {
-            period: 0,
-            min: Offset(0),
-            max: Offset(0),
-            check: 0,
-            data,
-        }
+// MSG-FIELDS: the tail of a type that has nothing after its header.
+pub fn empty_tail() -> Tail
+    ensures { λ r. ⌜ r ≡ emptyTail ⌝ }
+{
+    Tail {
+        period: 0,
+        min: Offset(0),
+        max: Offset(0),
+        check: 0,
+        data: 0,
     }
 }
 
-// The table of types: MSG-1 OffsetStart, MSG-2 OffsetAnsw1, MSG-3 OffsetAnsw2, MSG-4 OffsetEst, MSG-5 OffsetEnd, MSG-6 application.
-// A type that is not listed has no total: none is at least 1 and at most 0.
-fn table(kind: u8) -> Listed
+pub fn period_tail(period: u32) -> Tail
+    ensures { λ r. ⌜ r ≡ periodTail period ⌝ }
+{
+    let mut tail = empty_tail();
+    tail.period = period;
+    tail
+}
+
+pub fn offsets_tail(min: Offset, max: Offset) -> Tail
+    ensures { λ r. ⌜ r ≡ offsetsTail min max ⌝ }
+{
+    let mut tail = empty_tail();
+    tail.min = min;
+    tail.max = max;
+    tail
+}
+
+pub fn check_tail(check: u8) -> Tail
+    ensures { λ r. ⌜ r ≡ checkTail check ⌝ }
+{
+    let mut tail = empty_tail();
+    tail.check = check;
+    tail
+}
+
+pub fn data_tail(data: usize) -> Tail
+    ensures { λ r. ⌜ r ≡ dataTail «data» ⌝ }
+{
+    let mut tail = empty_tail();
+    tail.data = data;
+    tail
+}
+
+// A row: what stands after the header, and the least and the most total.
+fn message_row(after: After, least: usize, most: usize) -> Listed
+    ensures { λ r. ⌜ r ≡ messageRow after least most ⌝ }
+{
+    Listed { after, least, most }
+}
+
+// The table of types, MSG-1 to MSG-6. A type that is not listed has no total: none is at least 1 and at most 0.
+pub fn table_of(kind: u8) -> Listed
     ensures { λ r. ⌜ r ≡ tableOf kind ⌝ }
 {
     match kind {
-        1 => Listed {
-            after: After::Period,
-            least: 19,
-            most: 19,
-        },
-        2 => Listed {
-            after: After::Period,
-            least: 19,
-            most: 19,
-        },
-        3 => Listed {
-            after: After::Nothing,
-            least: 15,
-            most: 15,
-        },
-        4 => Listed {
-            after: After::Offsets,
-            least: 25,
-            most: 25,
-        },
-        5 => Listed {
-            after: After::Check,
-            least: 16,
-            most: 16,
-        },
-        6 => Listed {
-            after: After::Data,
-            least: 15,
-            most: 1000,
-        },
-        _ => Listed {
-            after: After::Nothing,
-            least: 1,
-            most: 0,
-        },
+        OFFSET_START => message_row(After::Period, START_SIZE, START_SIZE),
+        OFFSET_ANSW1 => message_row(After::Period, START_SIZE, START_SIZE),
+        OFFSET_ANSW2 => message_row(After::Nothing, HEADER_SIZE, HEADER_SIZE),
+        OFFSET_EST => message_row(After::Offsets, EST_SIZE, EST_SIZE),
+        OFFSET_END => message_row(After::Check, END_SIZE, END_SIZE),
+        APPLICATION => message_row(After::Data, HEADER_SIZE, MOST_MESSAGE),
+        _ => message_row(After::Nothing, 1, 0),
     }
 }
 
 impl Listed {
     // MSG-LISTED: whether the row lists this total.
-    fn lists(self, total: usize) -> bool
+    pub fn lists(self, total: usize) -> bool
         ensures { λ r. ⌜ r ≡ lists self total ⌝ }
     {
         if total < self.least {
@@ -206,7 +172,7 @@ impl Listed {
     }
 
     // The total with n bytes of application data, where the type has them.
-    fn total(self, n: usize) -> usize
+    pub fn total_of(self, n: usize) -> usize
         requires { ⌜ (self .least + n) < 2 ^ 64 ⌝ }
         ensures { λ r. ⌜ r ≡ totalOf self n ⌝ }
     {
@@ -217,9 +183,10 @@ impl Listed {
     }
 }
 
-fn read_header(s: &[u8]) -> Header
-    requires { ⌜ 15 ≤ length (now s) ⌝ }
-    ensures { λ r. ⌜ r ≡ headerOf (now (s .entry)) ⌝ }
+// MSG-HEAD: the first bytes, by their fields.
+fn message_header_of(s: &[u8]) -> Header
+    requires { ⌜ headerSize ≤ length (now s) ⌝ }
+    ensures { λ r. ⌜ r ≡ messageHeaderOf (now (s .entry)) ⌝ }
 {
     Header {
         kind: field::read8(s, 0),
@@ -231,7 +198,7 @@ fn read_header(s: &[u8]) -> Header
 }
 
 // MSG-PAIR: both must be pairs of sign and magnitude.
-fn both(min: OffsetRead, max: OffsetRead) -> TailRead
+fn offsets_from(min: OffsetRead, max: OffsetRead) -> TailRead
     ensures { λ r. ⌜ r ≡ offsetsFrom min max ⌝ }
 {
     let OffsetRead::Is(min) = min else {
@@ -240,13 +207,13 @@ fn both(min: OffsetRead, max: OffsetRead) -> TailRead
     let OffsetRead::Is(max) = max else {
         return TailRead::Malformed;
     };
-    TailRead::Is(Tail::with_offsets(min, max))
+    TailRead::Is(offsets_tail(min, max))
 }
 
-// An offset, as sign and magnitude.
-fn read_offset(s: &[u8], at: usize) -> OffsetRead
-    requires { ⌜ at + 5 ≤ length (now s) ⌝ }
-    ensures { λ r. ⌜ r ≡ offsetAt (now (s .entry)) at ⌝ }
+// MSG-SIGN: an offset, as sign and magnitude.
+fn offset_pair_at(s: &[u8], at: usize) -> OffsetRead
+    requires { ⌜ at + offsetSize ≤ length (now s) ⌝ }
+    ensures { λ r. ⌜ r ≡ offsetPairAt (now (s .entry)) at ⌝ }
 {
     let sign = field::read8(s, at);
     let magnitude = field::read32(s, at + 1);
@@ -254,24 +221,24 @@ fn read_offset(s: &[u8], at: usize) -> OffsetRead
 }
 
 // What stands after the header.
-fn read_after(after: After, s: &[u8]) -> TailRead
-    requires { ⌜ 15 + widthOf (widthsOf after) ≤ length (now s) ⌝ }
+fn tail_of(after: After, s: &[u8]) -> TailRead
+    requires { ⌜ headerSize + widthOf (widthsOf after) ≤ length (now s) ⌝ }
     ensures { λ r. ⌜ r ≡ tailOf after (now (s .entry)) ⌝ }
 {
     match after {
-        After::Period => TailRead::Is(Tail::with_period(field::read32(s, 15))),
-        After::Nothing => TailRead::Is(Tail::empty()),
-        After::Offsets => both(read_offset(s, 15), read_offset(s, 20)),
-        After::Check => TailRead::Is(Tail::with_check(field::read8(s, 15))),
-        After::Data => TailRead::Is(Tail::with_data(s.len() - 15)),
+        After::Period => TailRead::Is(period_tail(field::read32(s, HEADER_SIZE))),
+        After::Nothing => TailRead::Is(empty_tail()),
+        After::Offsets => offsets_from(offset_pair_at(s, HEADER_SIZE), offset_pair_at(s, MAX_AT)),
+        After::Check => TailRead::Is(check_tail(field::read8(s, HEADER_SIZE))),
+        After::Data => TailRead::Is(data_tail(s.len() - HEADER_SIZE)),
     }
 }
 
-// MSG-LATER.
-fn later_stamp(h: Header) -> bool
+// MSG-LATER: an OffsetStart with a later stamp.
+pub fn later_stamp(h: Header) -> bool
     ensures { λ r. ⌜ r ≡ laterStamp h ⌝ }
 {
-    if h.kind != 1 {
+    if h.kind != OFFSET_START {
         return false;
     }
     let last_peer_stamp = h.last_peer_stamp;
@@ -282,15 +249,15 @@ fn later_stamp(h: Header) -> bool
     arrival.0 != 0
 }
 
-// MSG-CHECK.
-fn check_over(check: u8) -> bool
+// MSG-CHECK: over 1.
+pub fn check_over(check: u8) -> bool
     ensures { λ r. ⌜ r ≡ checkOver check ⌝ }
 {
     1 < check
 }
 
 // A header and a tail of a listed total.
-fn whole(h: Header, read: TailRead) -> Parsed
+fn whole_of(h: Header, read: TailRead) -> Parsed
     ensures { λ r. ⌜ r ≡ wholeOf h read ⌝ }
 {
     let TailRead::Is(t) = read else {
@@ -309,119 +276,24 @@ fn whole(h: Header, read: TailRead) -> Parsed
 pub fn parse(s: &[u8]) -> Parsed
     ensures { λ r. ⌜ r ≡ parsedOf (now (s .entry)) ⌝ }
 {
-    if s.len() < 15 {
+    if s.len() < HEADER_SIZE {
         return Parsed::Malformed;
     }
-    let h = read_header(s);
-    let row = table(h.kind);
+    let h = message_header_of(s);
+    let row = table_of(h.kind);
     if row.lists(s.len()) {
         let after = row.after;
-        return whole(h, read_after(after, s));
+        return whole_of(h, tail_of(after, s));
     }
     Parsed::Malformed
 }
 
 // MSG-DATA: the application data, as a part of the message.
-pub fn data(s: &[u8]) -> &[u8]
+pub fn data_of(s: &[u8]) -> &[u8]
     ensures { λ r. ⌜ (now r ≡ dataOf (now (s .entry))) × (r .ptr ≡ dataPlace (s .entry)) ⌝ }
 {
-    if s.len() < 15 {
+    if s.len() < HEADER_SIZE {
         return &s[0..0];
     }
-    &s[15..]
-}
-
-fn write_header(out: &mut [u8], h: Header)
-    requires { ⌜ 15 ≤ length (now out) ⌝ }
-    ensures { λ _. ⌜ now (out .exit) ≡ sets (now (out .entry)) 0 (headerBytes h) ⌝ }
-{
-    let stamp = h.stamp;
-    let last_peer_stamp = h.last_peer_stamp;
-    let arrival = h.arrival;
-    field::write(out, 0, 1, h.kind as u32);
-    field::write(out, 1, 2, h.number as u32);
-    field::write(out, 3, 4, stamp.0);
-    field::write(out, 7, 4, last_peer_stamp.0);
-    field::write(out, 11, 4, arrival.0);
-}
-
-// An offset, as sign and magnitude.
-fn write_offset(out: &mut [u8], at: usize, offset: Offset)
-    requires { ⌜ at + 5 ≤ length (now out) ⌝ }
-    ensures { λ _. ⌜ now (out .exit) ≡ sets (now (out .entry)) at (offsetBytes offset) ⌝ }
-{
-    let pair = offset.sign_magnitude();
-    field::write(out, at, 1, pair.sign as u32);
-    field::write(out, at + 1, 4, pair.magnitude);
-}
-
-// What follows the header.
-fn write_after(out: &mut [u8], after: After, t: Tail, data: &[u8])
-    requires { ⌜ 15 + length (afterBytes after t (now «data»)) ≤ length (now out) ⌝ }
-    ensures { λ _. ⌜ now (out .exit) ≡ sets (now (out .entry)) 15 (afterBytes after t (now («data» .entry))) ⌝ }
-{
-    match after {
-        After::Period => field::write(out, 15, 4, t.period),
-        After::Nothing => {}
-        After::Offsets => {
-            let min = t.min;
-            let max = t.max;
-            write_offset(out, 15, min);
-            write_offset(out, 20, max);
-        }
-        After::Check => field::write(out, 15, 1, t.check as u32),
-        After::Data => field::copy(out, 15, data),
-    }
-}
-
-// As many bytes of application data lent as the tail says, in a type that has data.
-fn counted(after: After, said: usize, n: usize) -> bool
-    ensures { λ r. ⌜ r ≡ countedOf after said n ⌝ }
-{
-    match after {
-        After::Period => true,
-        After::Nothing => true,
-        After::Offsets => true,
-        After::Check => true,
-        After::Data => said == n,
-    }
-}
-
-// MSG-WRITE: what the table allows, of a message with n bytes of data lent.
-fn allowed(h: Header, t: Tail, n: usize) -> bool
-    requires { ⌜ n < 2 ^ 63 ⌝ }
-    ensures { λ r. ⌜ r ≡ allowedOf h t n ⌝ }
-{
-    let row = table(h.kind);
-    let total = row.total(n);
-    if row.lists(total) {
-        if later_stamp(h) {
-            return false;
-        }
-        if check_over(t.check) {
-            return false;
-        }
-        let after = row.after;
-        return counted(after, t.data, n);
-    }
-    false
-}
-
-// MSG-WRITE: writes the message from the start of out, and answers how many bytes: none where it is not allowed or out has no room.
-pub fn write(out: &mut [u8], h: Header, t: Tail, data: &[u8]) -> usize
-    ensures { λ r. ⌜ (r ≡ writtenOf (length (now (out .entry))) h t (length (now («data» .entry))))
-        × (now (out .exit) ≡ outOf (now (out .entry)) h t (now («data» .entry))) ⌝ }
-{
-    let row = table(h.kind);
-    let total = row.total(data.len());
-    if out.len() < total {
-        return 0;
-    }
-    if allowed(h, t, data.len()) {
-        let after = row.after;
-        write_header(out, h);
-        write_after(out, after, t, data);
-        return total;
-    }
-    0
+    &s[HEADER_SIZE..]
 }

@@ -3,10 +3,14 @@ use Prim.Native.Nat.{ℕ, _+_}
 use lib.IntN.{pos, _-ℤ_}
 use Rattle.rules.specs.Modulo.{modulo}
 
--- LINK-D, and the d of messages; SLIP-2: over the wrap
-unfoldable pub distanceOf : ℕ → ℕ → ℕ
-distanceOf number last = modulo (pos number -ℤ pos last) 65536
+-- NUMBER-1: how many numbers there are, 0 to 65535
+abbrev pub numbers : ℕ
+numbers = 65536
 
--- NUMBER-1: by ones, 0 after 65535
+-- LINK-D: how far a number is past the last one, of packets and of messages; SLIP-2: over the wrap
+unfoldable pub distanceOf : ℕ → ℕ → ℕ
+distanceOf number last = modulo (pos number -ℤ pos last) numbers
+
+-- NUMBER-1: the number that follows, by ones, and 0 after the last
 unfoldable pub nextOf : ℕ → ℕ
-nextOf number = modulo (pos (number + 1)) 65536
+nextOf number = modulo (pos (number + 1)) numbers

@@ -8,7 +8,7 @@ use lib.ListN.{length, take, drop, getD}
 use lib.Bits.{xor-lt}
 use lib.Dec.{lit<}
 use lib.Seq.{drop-cons}
-use Rattle.packet.specs.Check.{polynomial, bitIn, bitsIn, bytesIn, allOnes, checkOf}
+use Rattle.packet.specs.Check.{polynomial, bitIn, bitsIn, byteIn, bytesIn, allOnes, checkOf}
 
 one-less : (m k : ℕ) → k < m → m - k ≡ suc (m - (k + 1))
 one-less m k h = omega arith
@@ -26,7 +26,7 @@ bits-end m k r b h = ap (λ (n : ℕ). bitsIn n r b) (none-left m k h)
 
 -- of the m bytes from `at` on, k are in
 pub bytes-more : (s : List ℕ) (at m k r : ℕ) → k < m → at + m ≤ length s
-    → bytesIn r (take (m - k) (drop (at + k) s)) ≡ bytesIn (bitsIn 8 r (getD s (at + k) 0)) (take (m - (k + 1)) (drop (at + (k + 1)) s))
+    → bytesIn r (take (m - k) (drop (at + k) s)) ≡ bytesIn (byteIn r (getD s (at + k) 0)) (take (m - (k + 1)) (drop (at + (k + 1)) s))
 unfolding bytesIn
 bytes-more s at m k r h l =
     ap₂ (λ (n : ℕ) (x : List ℕ). bytesIn r (take n x)) (one-less m k h)

@@ -8,12 +8,12 @@ use lib.Bits.{bitXor}
 abbrev pub term : ℕ → ℕ
 term power = 2 ^ (15 - power)
 
--- x^16+x^12+x^5+1. Of its powers, x^16 is the term that leaves the register at each step; the other three are these.
+-- PKT-CHECK: x^16+x^12+x^5+1. Of its powers, x^16 is the term that leaves the register at each step; the other three are these.
 abbrev pub polynomial : ℕ
 polynomial = term 12 + term 5 + term 0
 
--- One bit goes in: the register moves one place towards the highest term, and where the bit that leaves it and the bit that goes in differ,
--- the polynomial is taken away, which is exclusive or.
+-- PKT-CHECK: one bit goes in: the register moves one place towards the highest term, and where the bit that leaves it and the bit
+-- that goes in differ, the polynomial is taken away, which is exclusive or.
 unfoldable pub bitIn : ℕ → ℕ → ℕ
 bitIn register bit = bitXor (register / 2) (((register + bit) % 2) * polynomial)
 
@@ -22,14 +22,19 @@ unfoldable pub bitsIn : ℕ → ℕ → ℕ → ℕ
 bitsIn zero register byte = register
 bitsIn (suc n) register byte = bitsIn n (bitIn register (byte % 2)) (byte / 2)
 
--- The bytes go in, the first of them first. What the register holds at the end is the check: it is not inverted.
+-- PKT-CHECK: all bits of a byte go in
+abbrev pub byteIn : ℕ → ℕ → ℕ
+byteIn register byte = bitsIn 8 register byte
+
+-- PKT-CHECK: the bytes go in, the first of them first. What the register holds at the end is the check: it is not inverted.
 unfoldable pub bytesIn : ℕ → List ℕ → ℕ
 bytesIn register [] = register
-bytesIn register (byte ∷ bytes) = bytesIn (bitsIn 8 register byte) bytes
+bytesIn register (byte ∷ bytes) = bytesIn (byteIn register byte) bytes
 
 -- PKT-CHECK: what the register holds at first
 abbrev pub allOnes : ℕ
 allOnes = 2 ^ 16 - 1
 
+-- PKT-CHECK: the check of bytes
 abbrev pub checkOf : List ℕ → ℕ
 checkOf bytes = bytesIn allOnes bytes

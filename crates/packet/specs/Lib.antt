@@ -1,7 +1,4 @@
--- The definitions that packet's contracts and theorems cite.
+-- What packets on a link are: their sizes, the check, the fields.
 pub mod Sizes
 pub mod Check
-pub mod Types
 pub mod Packet
-pub mod Writing
-pub mod RoundTrip

@@ -2,21 +2,35 @@
 -- Assumes nothing.
 use Prim.Native.Nat.{ℕ, _+_}
 
--- a header is 10 bytes: the length's own 2, and 8 that it counts
-abbrev pub headerSize : ℕ
-headerSize = 10
+-- PKT-LAYOUT: the length's own bytes, which it does not count
+abbrev pub lengthSize : ℕ
+lengthSize = 2
 
+-- PKT-LAYOUT: the bytes of a header, those of the length among them
+abbrev pub packetHeaderSize : ℕ
+packetHeaderSize = 10
+
+-- PKT-LEN: the length of a packet with no user data
 abbrev pub leastLength : ℕ
 leastLength = 8
 
-abbrev pub mostData : ℕ
-mostData = 1024
+-- PKT-LEN: the most bytes of user data
+abbrev pub mostUserData : ℕ
+mostUserData = 1024
 
--- 1,032
+-- PKT-LEN: 1,032
 abbrev pub mostLength : ℕ
-mostLength = leastLength + mostData
+mostLength = leastLength + mostUserData
 
--- the check is over the first 8 bytes, which are the first 6 fields
+-- LINK-USED: all bytes of a packet, those that its length counts and the length's own
+abbrev pub packetSize : ℕ → ℕ
+packetSize length = length + lengthSize
+
+-- PKT-LEN: the most bytes of a packet, 1,034
+abbrev pub mostPacket : ℕ
+mostPacket = packetSize mostLength
+
+-- PKT-CHECK: the check is over so many bytes, which are so many fields
 abbrev pub checkedBytes : ℕ
 checkedBytes = 8
 

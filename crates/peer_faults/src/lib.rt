@@ -183,7 +183,7 @@ pub fn fault_of(c: Connection, now: Count, h: Header, t: Tail) -> u16
     ensures { λ r. ⌜ r ≡ faultOf c now h t ⌝ }
 {
     let settings = c.settings;
-    let d = number::distance(h.number, c.peer.number);
+    let d = number::distance_of(h.number, c.peer.number);
     if not_ahead(h.kind, d) {
         return 202;
     }

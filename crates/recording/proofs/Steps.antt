@@ -10,9 +10,9 @@ use lib.Dec.{eqb}
 use lib.ListN.{length}
 use borrow.Author.Tests.{eq-eqb}
 use Rattle.rules.specs.Rows.{when_answer_else_}
-use Rattle.links.specs.Promises.{linksUp}
+use Rattle.link_promises.specs.Promises.{linksUp}
 use Rattle.links.specs.declared.Taken.{Taken}
-use Rattle.links.proofs.Forward.{goes-forward}
+use Rattle.link_promises.proofs.Forward.{goes-forward}
 use Rattle.recording.specs.Printed.{lineOf, endOf}
 use Rattle.recording.specs.Progress.{lastAnswer}
 use Rattle.recording.specs.Cut.{Reach, reachedBy, stepFrom, cutIn, mostSteps, cutFrom, GoesOn}

@@ -11,7 +11,7 @@ use Rattle.window.specs.Window.{lowOf, wasRead, ToppedUp}
 use Rattle.window.specs.declared.Window.{Window}
 use Rattle.window.specs.declared.Refilled.{Refilled}
 use Rattle.window.proofs.Unread.{low-not-ended}
-use Rattle.links.specs.Promises.{mostBytes}
+use Rattle.packet.specs.Sizes.{mostPacket}
 use Rattle.links.specs.declared.State.{State}
 use Rattle.links.specs.declared.Taken.{Taken}
 use Rattle.recording.specs.Printed.{heading, lineOf, endOf, mostLine}
@@ -30,11 +30,11 @@ record ReadsOn (before : List ℕ) (w : Window) (after : List ℕ) (v : Window) 
   on : (rest : List ℕ) → (v .ended ≡ true → rest ≡ []) → Reads before w (read ++ rest) after v rest
   none : (rest : List ℕ) → (v .ended ≡ true → rest ≡ []) → w .ended ≡ true → read ++ rest ≡ []
 
-topped-reads : (before : List ℕ) (w : Window) (after : List ℕ) (r : Refilled) → length after ≡ length before → ToppedUp mostBytes before w after r
+topped-reads : (before : List ℕ) (w : Window) (after : List ℕ) (r : Refilled) → length after ≡ length before → ToppedUp mostPacket before w after r
     → ReadsOn before w after (r .window)
-topped-reads before w after r size up = by (lowOf mostBytes w) refl
+topped-reads before w after r size up = by (lowOf mostPacket w) refl
   where
-    by : (low : Bool) → lowOf mostBytes w ≡ low → ReadsOn before w after (r .window)
+    by : (low : Bool) → lowOf mostPacket w ≡ low → ReadsOn before w after (r .window)
     by false e =
         let same = up .not-low e in
         let window = ap (λ (q : Refilled). q .window) (same .0) in
@@ -47,7 +47,7 @@ topped-reads before w after r size up = by (lowOf mostBytes w) refl
     by true e = record {
       read = wasRead w after r;
       on = λ rest all. refills after r (up .low e) size rest refl all;
-      none = λ rest all ended. absurd (false≢true (sym (low-not-ended mostBytes w e) ∙ ended));
+      none = λ rest all ended. absurd (false≢true (sym (low-not-ended mostPacket w e) ∙ ended));
     }
 
 -- before the first turn: the out buffer holds the heading

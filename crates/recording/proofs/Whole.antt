@@ -12,10 +12,11 @@ use Rattle.rules.specs.Rows.{when_answer_else_}
 use Rattle.window.specs.Window.{Within, leftOf, unread, lowOf, usedOf, wasRead}
 use Rattle.window.specs.declared.Window.{Window}
 use Rattle.window.proofs.Unread.{part, length-unread, unread-used, enough-or-ended, unread-refilled}
-use Rattle.links.specs.Promises.{mostBytes, seenFrom, placeless}
+use Rattle.link_promises.specs.Promises.{seenFrom, placeless}
+use Rattle.packet.specs.Sizes.{mostPacket}
 use Rattle.links.specs.declared.State.{State}
 use Rattle.links.specs.declared.Taken.{Taken}
-use Rattle.links.proofs.Alike.{sees-no-more-than-a-packet, buffer-seen-as-file}
+use Rattle.link_promises.proofs.Alike.{sees-no-more-than-a-packet, buffer-seen-as-file}
 use Rattle.recording.specs.Printed.{heading, lineOf, endOf}
 use Rattle.recording.specs.Progress.{takenAt, lastAnswer, countedOf, steppedOf, Lies}
 use Rattle.recording.specs.Cut.{Reach, reachedBy, stepFrom, cutFrom, cutOf, startFrom}
@@ -28,13 +29,13 @@ use Rattle.recording.proofs.Steps.{goes-on}
 
 -- what is lent of a window that follows a file is seen as the file is
 seen-as-file : (file : List ℕ) (place : ℕ) (buffer : List ℕ) (w : Window) (toRead : List ℕ) → Within w (length buffer) → Follows file place buffer w toRead
-    → lowOf mostBytes w ≡ false → seenFrom (take (w .to) buffer) (w .from) ≡ seenFrom file place
+    → lowOf mostPacket w ≡ false → seenFrom (take (w .to) buffer) (w .from) ≡ seenFrom file place
 seen-as-file file place buffer w toRead h f low =
     let lent = part (w .from) (w .to) buffer in
     let size : length (drop (w .from) (take (w .to) buffer)) ≡ leftOf w =
     ap length lent ∙ length-take-le (leftOf w) (drop (w .from) buffer) (omega (arith, length-drop (w .from) buffer)) in
     buffer-seen-as-file (take (w .to) buffer) (w .from) file place toRead (f .next ∙ ap (λ (l : List ℕ). l ++ toRead) (sym lent))
-    (⊎-elim (λ many. inl (subst (λ (n : ℕ). mostBytes ≤ n) (sym size) many)) (λ ended. inr (f .all ended)) (enough-or-ended mostBytes w low))
+    (⊎-elim (λ many. inl (subst (λ (n : ℕ). mostPacket ≤ n) (sym size) many)) (λ ended. inr (f .all ended)) (enough-or-ended mostPacket w low))
 
 -- a window that follows a file follows it after bytes of it are used
 follows-used : (file : List ℕ) (place : ℕ) (buffer : List ℕ) (w : Window) (toRead : List ℕ) (used : ℕ) → Within w (length buffer)

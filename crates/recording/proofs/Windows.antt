@@ -11,7 +11,7 @@ use lib.Seq.{length-take-le}
 use Rattle.window.specs.Window.{Within, usedOf}
 use Rattle.window.specs.declared.Window.{Window}
 use Rattle.links.specs.declared.Taken.{Taken}
-use Rattle.links.proofs.Promises.{uses-no-more-than-lent}
+use Rattle.link_promises.proofs.Promises.{uses-no-more-than-lent}
 use Rattle.recording.specs.Progress.{takenAt, countedOf, steppedOf, UsesNoMore, Lies, AdvancesAgree}
 use Rattle.recording.specs.declared.Progress.{Progress}
 use Rattle.recording.specs.declared.Advanced.{Advanced}

@@ -7,7 +7,7 @@ use mathlib.Core.List.{List, [], _++_}
 use lib.ListN.{length}
 use Rattle.rules.specs.Rows.{when_answer_else_}
 use Rattle.links.specs.Table.{takenOf}
-use Rattle.links.specs.Promises.{linksUp}
+use Rattle.link_promises.specs.Promises.{linksUp}
 use Rattle.links.specs.declared.State.{State}
 use Rattle.links.specs.declared.Taken.{Taken}
 use Rattle.recording.specs.Printed.{heading, lineOf, endOf}

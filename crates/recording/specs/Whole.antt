@@ -9,7 +9,7 @@ use Rattle.text.specs.Text.{placeOf}
 use Rattle.window.specs.Window.{unread, lowOf, RefilledFrom, wasRead, ToppedUp}
 use Rattle.window.specs.declared.Window.{Window}
 use Rattle.window.specs.declared.Refilled.{Refilled}
-use Rattle.links.specs.Promises.{mostBytes}
+use Rattle.packet.specs.Sizes.{mostPacket}
 use Rattle.links.specs.declared.State.{State}
 use Rattle.links.specs.declared.Taken.{Taken}
 use Rattle.recording.specs.Printed.{heading, lineOf, endOf, mostLine}
@@ -48,7 +48,7 @@ module _ (normalFile : List ℕ) (normalPlace : ℕ) (redundantFile : List ℕ) 
       (normalToRead redundantToRead : List ℕ) → Lies p (length normal) (length redundant)
       → Follows normalFile normalPlace normal (p .normal) normalToRead
       → Follows redundantFile redundantPlace redundant (p .redundant) redundantToRead
-      → lowOf mostBytes (p .normal) ≡ false → lowOf mostBytes (p .redundant) ≡ false
+      → lowOf mostPacket (p .normal) ≡ false → lowOf mostPacket (p .redundant) ≡ false
       → (lineOf (takenAt normal redundant p) ≡ lineOf whole) × (after .last ≡ lastAnswer (whole .answer))
       × (reachOf (reached .normal) (reached .redundant) after ≡ reached)
       × Follows normalFile (reached .normal) normal (after .normal) normalToRead
@@ -83,7 +83,7 @@ pub data Cuts (state : State) (normalFile redundantFile : List ℕ) : List ℕ �
       → Cuts state normalFile redundantFile normalAfter redundantAfter (windowed n r p) normalRest redundantRest printed
   steps : {normal redundant : List ℕ} {p : Progress} {normalToRead redundantToRead printed : List ℕ}
       → Cuts state normalFile redundantFile normal redundant p normalToRead redundantToRead printed
-      → p .last ≡ false → lowOf mostBytes (p .normal) ≡ false → lowOf mostBytes (p .redundant) ≡ false
+      → p .last ≡ false → lowOf mostPacket (p .normal) ≡ false → lowOf mostPacket (p .redundant) ≡ false
       → Cuts state normalFile redundantFile normal redundant (steppedOf (takenAt normal redundant p) p) normalToRead redundantToRead
       (printed ++ lineOf (takenAt normal redundant p))
 
@@ -99,10 +99,10 @@ PiecesAsWhole =
 -- Both windows topped up, so that neither is low.
 pub record BothToppedUp (normal redundant : List ℕ) (p : Progress) (normalAfter redundantAfter : List ℕ) (first second : Refilled)
     : Type 0 where
-  pub up-normal : ToppedUp mostBytes normal (p .normal) normalAfter first
-  pub up-redundant : ToppedUp mostBytes redundant (p .redundant) redundantAfter second
-  pub high-normal : lowOf mostBytes (first .window) ≡ false
-  pub high-redundant : lowOf mostBytes (second .window) ≡ false
+  pub up-normal : ToppedUp mostPacket normal (p .normal) normalAfter first
+  pub up-redundant : ToppedUp mostPacket redundant (p .redundant) redundantAfter second
+  pub high-normal : lowOf mostPacket (first .window) ≡ false
+  pub high-redundant : lowOf mostPacket (second .window) ≡ false
 
 -- One turn: room for a line; both windows topped up; a step over them, with its line put into the out buffer.
 pub record TurnOf (normal redundant : List ℕ) (p : Progress) (out : List ℕ) (at : ℕ) (normalAfter redundantAfter outAfter : List ℕ)

@@ -5,7 +5,7 @@ ghost use Prim.Native.Nat.{_+_, _^_, _≤_, _<_};
 ghost use lib.ListN.{length};
 ghost use Rattle.text.specs.Text.{PutAt};
 ghost use Rattle.window.specs.Window.{lowOf};
-ghost use Rattle.links.specs.Promises.{mostBytes};
+ghost use Rattle.packet.specs.Sizes.{mostPacket};
 ghost use Rattle.recording.specs.Printed.{heading, linkName, handedUpText, lineOf, endOf, mostLinkName, mostHandedUp, mostLine};
 ghost use Rattle.recording.specs.Progress.{startOf, windowed, takenAt, lastAnswer, countedOf, steppedOf};
 ghost use Rattle.recording.specs.Progress.{UsesNoMore, Lies, AdvancedTo};
@@ -139,7 +139,7 @@ fn take<'a>(normal: &'a [u8], redundant: &'a [u8], p: Progress) -> Taken
     let normal_to = p.normal.to;
     let redundant_from = p.redundant.from;
     let redundant_to = p.redundant.to;
-    links::take_by_readers(
+    link_reader::take_by_readers(
         &normal[..normal_to],
         normal_from,
         &redundant[..redundant_to],
@@ -158,7 +158,7 @@ fn count_data<'a>(normal: &'a [u8], redundant: &'a [u8], p: Progress, taken: Tak
     let normal_end = p.normal.to;
     let redundant_place = p.redundant.from;
     let redundant_end = p.redundant.to;
-    let part = links::handed_up_by_readers(
+    let part = link_reader::user_data_by_readers(
         &normal[..normal_end],
         normal_place,
         &redundant[..redundant_end],
@@ -229,7 +229,7 @@ pub fn advance<'a>(
 ) -> Advanced
     requires { ⌜ Lies p (length (now normal)) (length (now redundant)) ⌝ }
     requires { ⌜ at + mostLine ≤ length (now out) ⌝ }
-    requires { ⌜ (lowOf mostBytes (p .normal) ≡ false) × (lowOf mostBytes (p .redundant) ≡ false) ⌝ }
+    requires { ⌜ (lowOf mostPacket (p .normal) ≡ false) × (lowOf mostPacket (p .redundant) ≡ false) ⌝ }
     requires { ⌜ p .«handed_up» + 1 < 2 ^ 64 ⌝ }
     ensures { λ r. ⌜ AdvancedTo (now (normal .entry)) (now (redundant .entry)) p (now (out .entry)) at (now (out .exit)) r ⌝ }
     ensures { λ r. ⌜ Lies (r .progress) (length (now (normal .entry))) (length (now (redundant .entry)))

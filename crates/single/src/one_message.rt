@@ -52,7 +52,7 @@ fn put_written(out: &mut [u8], at: usize, h: Header, t: Tail, s: &[u8]) -> usize
     ensures { λ r. ⌜ r ≤ at + 2100 ⌝ }
 {
     let mut lent = [text::BEFORE; 1024];
-    let written = message::write(&mut lent, h, t, message::data(s));
+    let written = message_writing::write(&mut lent, h, t, message::data_of(s));
     let next = text::put(out, at, b" =");
     text::put_written(out, next, &lent, written)
 }

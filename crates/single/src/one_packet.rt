@@ -4,7 +4,7 @@ ghost use Prim.Native.Nat.{_+_, _≤_};
 ghost use lib.ListN.{length};
 ghost use Rattle.single.specs.Sizes.{mostLines};
 use crate::Done;
-use packet::Written;
+use packet_writing::Written;
 
 // The fields before the user data.
 const FIELDS: usize = 10;
@@ -21,7 +21,7 @@ fn write_packet(s: &[u8], end: usize, lent: &mut [u8], room: usize) -> Written
     let application = field::read8(s, 2);
     let number = field::read16(s, 3);
     let kind = field::read8(s, 5);
-    packet::write(
+    packet_writing::write(
         &mut lent[0..room],
         normal,
         version,

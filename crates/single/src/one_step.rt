@@ -108,7 +108,7 @@ fn data_of<'a>(normal: &'a [u8], redundant: &'a [u8], taken: Taken) -> &'a [u8]
     requires { ⌜ (length (now normal) ≤ 7168) × (length (now redundant) ≤ 7168) ⌝ }
     ensures { λ r. ⌜ length (now r) ≤ 7168 ⌝ }
 {
-    links::user_data(normal, redundant, taken)
+    links::user_data_of(normal, redundant, taken)
 }
 
 // That step, and its lines.
@@ -133,7 +133,7 @@ fn data_by_readers<'a>(
     requires { ⌜ (length (now normal) ≤ 7168) × (length (now redundant) ≤ 7168) ⌝ }
     ensures { λ r. ⌜ length (now r) ≤ 7168 ⌝ }
 {
-    links::handed_up_by_readers(normal, normal_place, redundant, redundant_place, taken)
+    link_reader::user_data_by_readers(normal, normal_place, redundant, redundant_place, taken)
 }
 
 // The same step by readers, and its lines.
@@ -145,7 +145,7 @@ fn put_by_readers(out: &mut [u8], at: usize, s: &[u8], middle: usize, end: usize
     let state = state_of(field::read8(s, 0), field::read16(s, 1));
     let normal_place = field::read32(s, 3) as usize;
     let redundant_place = field::read32(s, 7) as usize;
-    let taken = links::take_by_readers(
+    let taken = link_reader::take_by_readers(
         &s[FIELDS..middle],
         normal_place,
         &s[middle..end],

@@ -45,7 +45,7 @@ fn write_message(s: &[u8], end: usize, lent: &mut [u8], room: usize) -> usize
 {
     let h = header_of(s);
     let t = tail_of(s);
-    message::write(&mut lent[0..room], h, t, &s[FIELDS..end])
+    message_writing::write(&mut lent[0..room], h, t, &s[FIELDS..end])
 }
 
 // That message, and its line.

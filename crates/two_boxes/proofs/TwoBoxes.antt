@@ -23,10 +23,10 @@ use Rattle.number.proofs.Following.{next-fits, distance-next}
 use Rattle.message.specs.Layout.{periodTail, emptyTail, offsetsTail, checkTail}
 use Rattle.message.specs.Table.{tableOf, lists, totalOf}
 use Rattle.message.specs.Read.{laterStamp, checkOver, parsedOf}
-use Rattle.message.specs.Write.{messageBytes, allowedOf}
-use Rattle.message.specs.RoundTrip.{Ranges, Allowed}
+use Rattle.message_writing.specs.Writing.{messageBytes, allowedOf}
+use Rattle.round_trips.specs.Message.{Ranges, Allowed}
 use Rattle.message.proofs.Rows.{and-false}
-use Rattle.message.proofs.RoundTrip.{totals, written-reads-back}
+use Rattle.round_trips.proofs.Message.{totals, written-reads-back}
 use Rattle.message.specs.declared.Header.{Header}
 use Rattle.message.specs.declared.Tail.{Tail}
 use Rattle.message.specs.declared.Parsed.{Parsed}

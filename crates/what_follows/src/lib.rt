@@ -137,7 +137,7 @@ fn start_taken(c: Connection, now: Count, h: Header) -> Outcome
 {
     sending(
         reply_header(OFFSET_ANSW1, c, now, h),
-        Tail::with_period(c.own.period),
+        message::period_tail(c.own.period),
         answered(c, now, h, RESPONDER_WAITS_FOR_3),
     )
 }
@@ -164,7 +164,7 @@ fn answ1_taken(c: Connection, now: Count, h: Header) -> Outcome
 {
     sending(
         reply_header(OFFSET_ANSW2, c, now, h),
-        Tail::empty(),
+        message::empty_tail(),
         answered(c, now, h, INITIATOR_WAITS_FOR_4).with_offsets(min_of(c, h), max_of(now, h)),
     )
 }
@@ -176,7 +176,7 @@ fn answ2_taken(c: Connection, now: Count, h: Header) -> Outcome
     let max = max_of(now, h);
     sending(
         reply_header(OFFSET_EST, c, now, h),
-        Tail::with_offsets(min, max),
+        message::offsets_tail(min, max),
         answered(c, now, h, RESPONDER_WAITS_FOR_5).with_offsets(min, max),
     )
 }
@@ -186,7 +186,7 @@ fn est_taken(c: Connection, now: Count, h: Header) -> Outcome
 {
     sending(
         reply_header(OFFSET_END, c, now, h),
-        Tail::with_check(1),
+        message::check_tail(1),
         c.clocked(now)
             .heard(h, now)
             .sent()
@@ -227,7 +227,7 @@ fn refusing(c: Connection, now: Count, h: Header) -> Outcome
         209,
         true,
         0,
-        Reply::Send(reply_header(OFFSET_END, c, now, h), Tail::with_check(0)),
+        Reply::Send(reply_header(OFFSET_END, c, now, h), message::check_tail(0)),
         Connection::all_zero(),
     )
 }

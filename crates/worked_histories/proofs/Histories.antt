@@ -8,7 +8,7 @@ use mathlib.Core.Logic.{_⊎_, ⊎-elim}
 use native.Mathlib.Omega.{arith}
 use lib.Dec.{eqb}
 use lib.IntN.{ℤ}
-use Rattle.message.specs.Read.{headerOf, parsedOf}
+use Rattle.message.specs.Read.{messageHeaderOf, parsedOf}
 use Rattle.message.specs.declared.Tail.{Tail}
 use Rattle.message.specs.declared.Parsed.{Parsed}
 use Rattle.connection.specs.declared.Settings.{Settings}
@@ -43,20 +43,20 @@ pub judges : {W : World} {began since : W .Moment} {role : ℕ} {settings : Sett
     {sent taken : W .Moment} {message : List ℕ} {k : Common} {n : Numbers}
     → Reaches W began role settings p → p .c .phase ≡ opened
     → W .early (p .last) taken → W .early since sent → W .early sent taken
-    → (tail : Tail) → parsedOf message ≡ Parsed.Whole (headerOf message) tail → 3 < headerOf message .kind
-    → headerOf message .stamp ≡ countOf (W .peers sent)
+    → (tail : Tail) → parsedOf message ≡ Parsed.Whole (messageHeaderOf message) tail → 3 < messageHeaderOf message .kind
+    → messageHeaderOf message .stamp ≡ countOf (W .peers sent)
     → (first : Ours W) → Written W 0 first (p .log)
-    → commonOf W settings (k .j) first ≡ k → numbersOf W k (p .c) sent taken (headerOf message) message ≡ n
+    → commonOf W settings (k .j) first ≡ k → numbersOf W k (p .c) sent taken (messageHeaderOf message) message ≡ n
     → Judges W began since role settings p sent taken message k n
 judges {sent} {message} history is-open onward since-it on-it tail whole type stamped first written common numbers =
     record {
       history = history;
       is-open = is-open;
       onward = onward;
-      header = headerOf message;
+      header = messageHeaderOf message;
       tail = tail;
       whole = whole;
-      judged = record { sent = sent; since = since-it; onward = on-it; stamped = stamped; reports = type-4-on (headerOf message .kind) type };
+      judged = record { sent = sent; since = since-it; onward = on-it; stamped = stamped; reports = type-4-on (messageHeaderOf message .kind) type };
       then-sent = refl;
       first = first;
       written = written;

@@ -4,7 +4,7 @@ use Prim.Native.Nat.{ℕ, _-_}
 use mathlib.Core.Path.{_≡_}
 use mathlib.Core.List.{List, [], _∷_}
 use lib.IntN.{pos, negℤ}
-use Rattle.message.specs.Read.{headerOf}
+use Rattle.message.specs.Read.{messageHeaderOf}
 use Rattle.connection.specs.declared.Connection.{Connection}
 use Rattle.true_age.specs.Clocks.{World, InBand, countOf}
 use Rattle.true_age.specs.History.{History}
@@ -60,7 +60,7 @@ pub record AnotherRecord : Type 0 where
       mixedMessage band0 leftNumbers
   -- the receive gets the other neighbour's record
   pub record-missed : ¬ (anothersOpen runs ≡ initiatorOpen responders runs settings200 .c)
-  pub numbers-are : numbersOf (atInitiator responders runs) band0 (anothersOpen runs) 1150 1400 (headerOf mixedMessage) mixedMessage ≡ mixedNumbers
+  pub numbers-are : numbersOf (atInitiator responders runs) band0 (anothersOpen runs) 1150 1400 (messageHeaderOf mixedMessage) mixedMessage ≡ mixedNumbers
   pub claim-fails : ¬ (Claimed settings200 (anothersOpen runs) band0 mixedNumbers)
 
 -- ---- an initiator's set-up has begun when begin writes OffsetStart
@@ -115,10 +115,10 @@ pub record TakenBeforeSent : Type 0 where
       (initiatorOpen driftingPeers runs settings200 .log) 1110 (initiatorOpen driftingPeers runs settings200 .c)
   pub next : atInitiator driftingPeers runs .early 1110 2000
   pub since : atInitiator driftingPeers runs .early 1000 3000
-  pub stamped : headerOf driftedMessage .stamp ≡ countOf (driftingPeers 3000)
+  pub stamped : messageHeaderOf driftedMessage .stamp ≡ countOf (driftingPeers 3000)
   pub onward-missed : ¬ (atInitiator driftingPeers runs .early 3000 2000)
   pub common-is : commonOf (atInitiator driftingPeers runs) settings200 0 (offsetStart driftingPeers runs) ≡ band0
-  pub numbers-are : numbersOf (atInitiator driftingPeers runs) band0 (initiatorOpen driftingPeers runs settings200 .c) 3000 2000 (headerOf driftedMessage) driftedMessage
+  pub numbers-are : numbersOf (atInitiator driftingPeers runs) band0 (initiatorOpen driftingPeers runs settings200 .c) 3000 2000 (messageHeaderOf driftedMessage) driftedMessage
       ≡ beforeNumbers
   pub claim-fails : ¬ (Claimed settings200 (initiatorOpen driftingPeers runs settings200 .c) band0 beforeNumbers)
 
@@ -157,12 +157,12 @@ pub record ReportOfAnother : Type 0 where
   pub runs : Runs responders
   pub band : StaysInBand (asReported 1005 runs) 1000 0
   -- the first one's arrival is reported truthfully, and its stamp is echoed
-  pub reported : headerOf earliersAnsw1 .arrival ≡ countOf (responders 1005)
-  pub echoes : headerOf earliersAnsw1 .«last_peer_stamp» ≡ offsetStart responders runs .header .stamp
+  pub reported : messageHeaderOf earliersAnsw1 .arrival ≡ countOf (responders 1005)
+  pub echoes : messageHeaderOf earliersAnsw1 .«last_peer_stamp» ≡ offsetStart responders runs .header .stamp
   -- all is as supposed in the world where this one's arrived then
   pub message : Judges (asReported 1005 runs) 1000 1000 0 settings200 (openAsReported 1005 earliersAnsw1 runs) 1200 1385 reportedMessage earliersBand0 earliersNumbers
-  pub of-ours-missed : ¬ (headerOf earliersAnsw1 .arrival ≡ countOf (responders (atInitiator responders runs .arrived 0)))
+  pub of-ours-missed : ¬ (messageHeaderOf earliersAnsw1 .arrival ≡ countOf (responders (atInitiator responders runs .arrived 0)))
   pub common-is : commonOf (atInitiator responders runs) settings200 0 (offsetStart responders runs) ≡ band0
-  pub numbers-are : numbersOf (atInitiator responders runs) band0 (openAsReported 1005 earliersAnsw1 runs .c) 1200 1385 (headerOf reportedMessage) reportedMessage
+  pub numbers-are : numbersOf (atInitiator responders runs) band0 (openAsReported 1005 earliersAnsw1 runs .c) 1200 1385 (messageHeaderOf reportedMessage) reportedMessage
       ≡ onThisNumbers
   pub claim-fails : ¬ (Claimed settings200 (openAsReported 1005 earliersAnsw1 runs .c) band0 onThisNumbers)

@@ -5,7 +5,7 @@ use Prim.Native.Nat.{ℕ, _+_, _^_, _<_}
 use mathlib.Core.Path.{_≡_}
 use mathlib.Core.List.{List, [], _∷_}
 use lib.IntN.{pos, negℤ}
-use Rattle.message.specs.Read.{headerOf}
+use Rattle.message.specs.Read.{messageHeaderOf}
 use Rattle.true_age.specs.Clocks.{World, InBand, countOf}
 use Rattle.true_age.specs.Claim.{trueAge}
 use Rattle.worked_histories.specs.Worlds.{Runs, StaysInBand, arrivals, worldOf, initiators, responders, standing, standingBefore}
@@ -107,8 +107,8 @@ pub record FalseStamp : Type 0 where
   -- it was sent at 1120, and but for the stamp that is as supposed too
   pub since : atInitiator responders runs .early 1000 1120
   pub onward : atInitiator responders runs .early 1120 2030
-  pub stamp-missed : ¬ (headerOf falselyStamped .stamp ≡ countOf (responders 1120))
-  pub numbers-are : numbersOf (atInitiator responders runs) band0 (initiatorOpen responders runs settings200 .c) 1120 2030 (headerOf falselyStamped) falselyStamped
+  pub stamp-missed : ¬ (messageHeaderOf falselyStamped .stamp ≡ countOf (responders 1120))
+  pub numbers-are : numbersOf (atInitiator responders runs) band0 (initiatorOpen responders runs settings200 .c) 1120 2030 (messageHeaderOf falselyStamped) falselyStamped
       ≡ sentNumbers
   pub claim-fails : ¬ (Claimed settings200 (initiatorOpen responders runs settings200 .c) band0 sentNumbers)
 
@@ -138,9 +138,9 @@ pub record FalseArrival : Type 0 where
   pub band : StaysInBand (asReported 1000 runs) 1000 0
   -- all is as supposed in the world as reported, which differs from the true one in this arrival alone
   pub message : Judges (asReported 1000 runs) 1000 1000 0 settings200 (openAsReported 1000 falseAnsw1 runs) 1200 1390 reportedMessage reportedBand0 reportedNumbers
-  pub arrival-missed : ¬ (headerOf falseAnsw1 .arrival ≡ countOf (responders (atInitiator responders runs .arrived 0)))
+  pub arrival-missed : ¬ (messageHeaderOf falseAnsw1 .arrival ≡ countOf (responders (atInitiator responders runs .arrived 0)))
   pub common-is : commonOf (atInitiator responders runs) settings200 0 (offsetStart responders runs) ≡ band0
-  pub numbers-are : numbersOf (atInitiator responders runs) band0 (openAsReported 1000 falseAnsw1 runs .c) 1200 1390 (headerOf reportedMessage) reportedMessage ≡ trueNumbers
+  pub numbers-are : numbersOf (atInitiator responders runs) band0 (openAsReported 1000 falseAnsw1 runs .c) 1200 1390 (messageHeaderOf reportedMessage) reportedMessage ≡ trueNumbers
   pub claim-fails : ¬ (Claimed settings200 (openAsReported 1000 falseAnsw1 runs .c) band0 trueNumbers)
 
 -- ---- each call gets our count as its now

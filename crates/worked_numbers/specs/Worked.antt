@@ -6,7 +6,7 @@ use lib.IntN.{ℤ, pos, negℤ}
 use lib.ListN.{replicate}
 use Rattle.clock.specs.declared.Count.{Count}
 use Rattle.number.specs.Number.{distanceOf}
-use Rattle.message.specs.Read.{headerOf}
+use Rattle.message.specs.Read.{messageHeaderOf}
 use Rattle.connection.specs.declared.Settings.{Settings}
 use Rattle.connection.specs.declared.Connection.{Connection}
 use Rattle.connection.specs.Connection.{opened, allZero}
@@ -150,7 +150,7 @@ abbrev pub deliveredTo : Connection → ℕ → List ℕ → List ℕ
 deliveredTo c now message = deliveredOf message (receiveOutcome c (count now) message 25 .delivered)
 
 abbrev pub ageAt : Connection → ℕ → List ℕ → ℤ
-ageAt c now message = messageAge c (count now) (headerOf message)
+ageAt c now message = messageAge c (count now) (messageHeaderOf message)
 
 abbrev pub stamp300 : List ℕ
 stamp300 = 0x00 ∷ 0x00 ∷ 0x01 ∷ 0x2C ∷ []
@@ -213,7 +213,7 @@ starred =
     ∷ answerTo (early 35) 860 (application 0x00 0x0B stamp4294967290) gives 205
     -- NUM-10: last 65535, next 0
     ∷ initiator65535 .peer .number gives 65535
-    ∷ distanceOf (headerOf (application 0x00 0x00 stamp300) .number) (initiator65535 .peer .number) gives 1
+    ∷ distanceOf (messageHeaderOf (application 0x00 0x00 stamp300) .number) (initiator65535 .peer .number) gives 1
     ∷ answerTo initiator65535 1170 (application 0x00 0x00 stamp300) gives 0
     -- NUM-11: last 10, next 13
     ∷ initiator 40 .peer .number gives 10

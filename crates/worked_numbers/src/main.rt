@@ -61,7 +61,7 @@ fn worked_ages() -> Ages {
 }
 
 fn distance() -> u16 {
-    number::distance(0, 65535)
+    number::distance_of(0, 65535)
 }
 
 // An offset as a message carries it: the sign, then the magnitude.

@@ -1,5 +1,7 @@
 -- `calls::put` meets its contract: the writer takes what is sent, and writes it whole. Assumes nothing.
-use mathlib.Core.Path.{_∙_}
+use mathlib.Core.Path.{ap, _∙_}
+use lib.ListN.{length}
+use lib.Seq.{sets}
 use Rattle.calls.proofs.Replies.{put-is}
 use borrow.Author.Needs.{needs}
 use Rattle.calls.proofs.put.Statement.{statement}
@@ -25,7 +27,7 @@ returns-2 c =
     let a = c .before .before .before .before .before .before .before .before .before in
     let x = put-is (a .args .reply) _ _ (a .args .lent .now) (a .args .out .now) (c .before .before .before .before .before .reply .given .1) (a .pre) in
     let w = c .before .before .write .ensures in
-    (w .0 ∙ x .0, w .1 ∙ x .1)
+    (w .0 ∙ ap length x, w .1 ∙ ap (sets (a .args .out .now) 0) x)
 
 pub put-spec : {M : Type 1} → statement M
 put-spec =

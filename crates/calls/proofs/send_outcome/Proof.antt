@@ -18,8 +18,8 @@ returns c = search (tests, c .refused .ensures, ← (c .before .before .send-ref
 data-header-requires : tie.Need-data-header-requires
 data-header-requires c κs = search needs
 
-with-data-requires : tie.Need-with-data-requires
-with-data-requires c κs = search needs
+data-tail-requires : tie.Need-data-tail-requires
+data-tail-requires c κs = search needs
 
 clocked-requires : tie.Need-clocked-requires
 clocked-requires c κs = search needs
@@ -38,7 +38,7 @@ returns-2 c =
       c .sending .ensures,
       c .before .sent .ensures,
       c .before .before .clocked .ensures,
-      c .before .before .before .with-data .ensures,
+      c .before .before .before .data-tail .ensures,
       c .before .before .before .before .data-header .ensures,
       ← (c .before .before .before .before .before .before .send-refusal .ensures),
     )
@@ -51,7 +51,7 @@ send-outcome-spec =
     refused-requires
     returns
     data-header-requires
-    with-data-requires
+    data-tail-requires
     clocked-requires
     sent-requires
     sending-requires

@@ -7,8 +7,8 @@ use Rattle.calls.proofs.start_sent.Tie as tie
 start-header-requires : tie.Need-start-header-requires
 start-header-requires c κs = search needs
 
-with-period-requires : tie.Need-with-period-requires
-with-period-requires c κs = search needs
+period-tail-requires : tie.Need-period-tail-requires
+period-tail-requires c κs = search needs
 
 begun-requires : tie.Need-begun-requires
 begun-requires c κs = search needs
@@ -30,7 +30,7 @@ returns c =
       c .before .waiting .ensures,
       c .before .before .sent .ensures,
       c .before .before .before .begun .ensures,
-      c .before .before .before .before .with-period .ensures,
+      c .before .before .before .before .period-tail .ensures,
       c .before .before .before .before .before .start-header .ensures,
     )
 
@@ -39,7 +39,7 @@ start-sent-spec =
     tie.close
     (tie.spec
     start-header-requires
-    with-period-requires
+    period-tail-requires
     begun-requires
     sent-requires
     waiting-requires

@@ -5,7 +5,7 @@ use mathlib.Core.Bool.{false, false≢true}
 use native.Mathlib.Omega.{arith}
 use lib.ListN.{length}
 use Rattle.window.specs.Window.{lowOf}
-use Rattle.links.specs.Promises.{mostBytes}
+use Rattle.packet.specs.Sizes.{mostPacket}
 use Rattle.recording.specs.Progress.{windowed, Lies, AdvancedTo}
 use Rattle.recording.specs.declared.Progress.{Progress}
 use borrow.Author.Needs.{needs}
@@ -59,7 +59,7 @@ advance-requires c κs =
       (
         omega (arith, place .ensures .1, start .pre .1 .1 .0 .1),
         (
-          subst (λ (q : Progress). (lowOf mostBytes (q .normal) ≡ false) × (lowOf mostBytes (q .redundant) ≡ false)) (sym lent)
+          subst (λ (q : Progress). (lowOf mostPacket (q .normal) ≡ false) × (lowOf mostPacket (q .redundant) ≡ false)) (sym lent)
               (made .0 .high-normal, made .0 .high-redundant),
           omega (arith, ap (λ (q : Progress). q .«handed_up») lent, start .pre .1 .1 .1),
         ),

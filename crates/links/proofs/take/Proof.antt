@@ -10,8 +10,8 @@ use Rattle.links.proofs.take.Tie as tie
 held-requires : tie.Need-held-requires
 held-requires c κs = search needs
 
-looked-requires : tie.Need-looked-requires
-looked-requires c κs =
+rows-of-requires : tie.Need-rows-of-requires
+rows-of-requires c κs =
     let a = c .before .before .before .before .args in
     let b = both-true _ _ (sym (c .before .held .ensures) ∙ c .if1 .taken) in
     (normal-up (a .state) (b .0), b .1)
@@ -19,15 +19,15 @@ looked-requires c κs =
 returns : tie.Need-returns
 returns c =
     let a = c .before .before .before .before .before .args in
-    c .looked .ensures
+    c .rows-of .ensures
     ∙ at-normal (a .normal .now) (a .normal-at) (a .redundant .now) (a .redundant-at) (a .state)
     (sym (c .before .before .held .ensures) ∙ c .before .if1 .taken)
 
 held-requires-2 : tie.Need-held-requires-2
 held-requires-2 c κs = search needs
 
-looked-requires-2 : tie.Need-looked-requires-2
-looked-requires-2 c κs =
+rows-of-requires-2 : tie.Need-rows-of-requires-2
+rows-of-requires-2 c κs =
     let a = c .before .before .before .before .before .before .args in
     let b = both-true _ _ (sym (c .before .held2 .ensures) ∙ c .if2 .taken) in
     (redundant-up (a .state) (b .0), b .1)
@@ -35,7 +35,7 @@ looked-requires-2 c κs =
 returns-2 : tie.Need-returns-2
 returns-2 c =
     let a = c .before .before .before .before .before .before .before .args in
-    c .looked2 .ensures
+    c .rows-of2 .ensures
     ∙ at-redundant (a .normal .now) (a .normal-at) (a .redundant .now) (a .redundant-at) (a .state)
     (sym (c .before .before .before .before .held .ensures) ∙ c .before .before .before .if1 .left)
     (sym (c .before .before .held2 .ensures) ∙ c .before .if2 .taken)
@@ -71,10 +71,10 @@ take-spec =
     tie.close
     (tie.spec
     held-requires
-    looked-requires
+    rows-of-requires
     returns
     held-requires-2
-    looked-requires-2
+    rows-of-requires-2
     returns-2
     both-down-requires
     empty-part-requires

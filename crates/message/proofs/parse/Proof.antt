@@ -10,35 +10,35 @@ use Rattle.message.proofs.parse.Tie as tie
 returns : tie.Need-returns
 returns c = sym (parsed-short (c .before .before .args .s .now) (c .if1 .taken))
 
-read-header-requires : tie.Need-read-header-requires
-read-header-requires c κs = search needs
+message-header-of-requires : tie.Need-message-header-of-requires
+message-header-of-requires c κs = search needs
 
-table-requires : tie.Need-table-requires
-table-requires c κs = search needs
+table-of-requires : tie.Need-table-of-requires
+table-of-requires c κs = search needs
 
 lists-requires : tie.Need-lists-requires
 lists-requires c κs = search needs
 
-read-after-requires : tie.Need-read-after-requires
-read-after-requires c κs = fields-within _ _ _ (c .before .before .table .ensures) (sym (c .before .lists .ensures) ∙ c .if2 .taken)
+tail-of-requires : tie.Need-tail-of-requires
+tail-of-requires c κs = fields-within _ _ _ (c .before .before .table-of .ensures) (sym (c .before .lists .ensures) ∙ c .if2 .taken)
 
-whole-requires : tie.Need-whole-requires
-whole-requires c κs = search needs
+whole-of-requires : tie.Need-whole-of-requires
+whole-of-requires c κs = search needs
 
 returns-2 : tie.Need-returns-2
 returns-2 c =
     let r = c .before .before in
     let f = r .before .before .before in
-    c .whole .ensures
+    c .whole-of .ensures
     ∙ sym
-    (parsed-listed (f .before .before .before .args .s .now) _ _ (f .read-header .ensures) (r .before .before .table .ensures) _
-    (c .before .read-after .ensures) (sym (r .before .lists .ensures) ∙ r .if2 .taken))
+    (parsed-listed (f .before .before .before .args .s .now) _ _ (f .message-header-of .ensures) (r .before .before .table-of .ensures) _
+    (c .before .tail-of .ensures) (sym (r .before .lists .ensures) ∙ r .if2 .taken))
 
 returns-3 : tie.Need-returns-3
 returns-3 c =
     let f = c .before .before .before in
     sym
-    (parsed-unlisted (f .before .before .before .args .s .now) _ _ (f .read-header .ensures) (c .before .before .table .ensures)
+    (parsed-unlisted (f .before .before .before .args .s .now) _ _ (f .message-header-of .ensures) (c .before .before .table-of .ensures)
     (sym (c .before .lists .ensures) ∙ c .if2 .left))
 
 pub parse-spec : {M : Type 1} → statement M
@@ -46,10 +46,10 @@ parse-spec =
     tie.close
     (tie.spec
     returns
-    read-header-requires
-    table-requires
+    message-header-of-requires
+    table-of-requires
     lists-requires
-    read-after-requires
-    whole-requires
+    tail-of-requires
+    whole-of-requires
     returns-2
     returns-3)

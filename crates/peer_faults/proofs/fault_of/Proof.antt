@@ -5,15 +5,15 @@ use borrow.Author.Needs.{needs}
 use Rattle.peer_faults.proofs.fault_of.Statement.{statement}
 use Rattle.peer_faults.proofs.fault_of.Tie as tie
 
-distance-requires : tie.Need-distance-requires
-distance-requires c κs = search needs
+distance-of-requires : tie.Need-distance-of-requires
+distance-of-requires c κs = search needs
 
 not-ahead-requires : tie.Need-not-ahead-requires
 not-ahead-requires c κs = search needs
 
 returns : tie.Need-returns
 unfolding faultOf
-returns c = search (tests, c .if1 .taken, ← (c .before .not-ahead .ensures), ← (c .before .before .distance .ensures))
+returns c = search (tests, c .if1 .taken, ← (c .before .not-ahead .ensures), ← (c .before .before .distance-of .ensures))
 
 beyond-n-requires : tie.Need-beyond-n-requires
 beyond-n-requires c κs = search needs
@@ -27,7 +27,7 @@ returns-2 c =
       ← (c .before .beyond-n .ensures),
       c .before .before .if1 .left,
       ← (c .before .before .before .not-ahead .ensures),
-      ← (c .before .before .before .before .distance .ensures),
+      ← (c .before .before .before .before .distance-of .ensures),
     )
 
 wrong-echo-requires : tie.Need-wrong-echo-requires
@@ -44,7 +44,7 @@ returns-3 c =
       ← (c .before .before .before .before .before .beyond-n .ensures),
       c .before .before .before .before .before .before .if1 .left,
       ← (c .before .before .before .before .before .before .before .not-ahead .ensures),
-      ← (c .before .before .before .before .before .before .before .before .distance .ensures),
+      ← (c .before .before .before .before .before .before .before .before .distance-of .ensures),
     )
 
 check-failed-requires : tie.Need-check-failed-requires
@@ -63,7 +63,7 @@ returns-4 c =
       ← (c .before .before .before .before .before .before .before .beyond-n .ensures),
       c .before .before .before .before .before .before .before .before .if1 .left,
       ← (c .before .before .before .before .before .before .before .before .before .not-ahead .ensures),
-      ← (c .before .before .before .before .before .before .before .before .before .before .distance .ensures),
+      ← (c .before .before .before .before .before .before .before .before .before .before .distance-of .ensures),
     )
 
 age-number-requires : tie.Need-age-number-requires
@@ -83,7 +83,7 @@ returns-5 c =
       ← (c .before .before .before .before .before .before .before .before .before .beyond-n .ensures),
       c .before .before .before .before .before .before .before .before .before .before .if1 .left,
       ← (c .before .before .before .before .before .before .before .before .before .before .before .not-ahead .ensures),
-      ← (c .before .before .before .before .before .before .before .before .before .before .before .before .distance .ensures),
+      ← (c .before .before .before .before .before .before .before .before .before .before .before .before .distance-of .ensures),
     )
 
 returns-6 : tie.Need-returns-6
@@ -100,7 +100,7 @@ returns-6 c =
       ← (c .before .before .before .before .before .before .before .before .before .before .beyond-n .ensures),
       c .before .before .before .before .before .before .before .before .before .before .before .if1 .left,
       ← (c .before .before .before .before .before .before .before .before .before .before .before .before .not-ahead .ensures),
-      ← (c .before .before .before .before .before .before .before .before .before .before .before .before .before .distance .ensures),
+      ← (c .before .before .before .before .before .before .before .before .before .before .before .before .before .distance-of .ensures),
     )
 
 gap-requires : tie.Need-gap-requires
@@ -122,7 +122,7 @@ returns-7 c =
       ← (c .before .before .before .before .before .before .before .before .before .before .before .before .beyond-n .ensures),
       c .before .before .before .before .before .before .before .before .before .before .before .before .before .if1 .left,
       ← (c .before .before .before .before .before .before .before .before .before .before .before .before .before .before .not-ahead .ensures),
-      ← (c .before .before .before .before .before .before .before .before .before .before .before .before .before .before .before .distance .ensures),
+      ← (c .before .before .before .before .before .before .before .before .before .before .before .before .before .before .before .distance-of .ensures),
     )
 
 returns-8 : tie.Need-returns-8
@@ -141,14 +141,14 @@ returns-8 c =
       ← (c .before .before .before .before .before .before .before .before .before .before .before .before .beyond-n .ensures),
       c .before .before .before .before .before .before .before .before .before .before .before .before .before .if1 .left,
       ← (c .before .before .before .before .before .before .before .before .before .before .before .before .before .before .not-ahead .ensures),
-      ← (c .before .before .before .before .before .before .before .before .before .before .before .before .before .before .before .distance .ensures),
+      ← (c .before .before .before .before .before .before .before .before .before .before .before .before .before .before .before .distance-of .ensures),
     )
 
 pub fault-of-spec : {M : Type 1} → statement M
 fault-of-spec =
     tie.close
     (tie.spec
-    distance-requires
+    distance-of-requires
     not-ahead-requires
     returns
     beyond-n-requires

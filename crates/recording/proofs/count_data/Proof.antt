@@ -4,23 +4,23 @@ use lib.ListN.{length, take}
 use lib.Seq.{length-take-le}
 use Rattle.links.specs.Table.{userDataOf}
 use Rattle.links.specs.declared.Taken.{Taken}
-use Rattle.links.proofs.Promises.{counts-its-user-data}
+use Rattle.link_promises.proofs.Promises.{counts-its-user-data}
 use borrow.Author.Needs.{needs}
 use Rattle.recording.proofs.count_data.Statement.{statement}
 use Rattle.recording.proofs.count_data.Tie as tie
 
-slice-aggregate-handed-up-by-readers : tie.Need-slice-aggregate-handed-up-by-readers
-slice-aggregate-handed-up-by-readers c =
+slice-aggregate-user-data-by-readers : tie.Need-slice-aggregate-user-data-by-readers
+slice-aggregate-user-data-by-readers c =
     let start = c .before .before .before in
     sym (length-take-le (start .args .p .normal .to) (start .args .normal .now) (start .pre .0 .0 .1))
 
-slice-aggregate-handed-up-by-readers-2 : tie.Need-slice-aggregate-handed-up-by-readers-2
-slice-aggregate-handed-up-by-readers-2 c =
+slice-aggregate-user-data-by-readers-2 : tie.Need-slice-aggregate-user-data-by-readers-2
+slice-aggregate-user-data-by-readers-2 c =
     let start = c .before .before .before .before in
     sym (length-take-le (start .args .p .redundant .to) (start .args .redundant .now) (start .pre .0 .1 .1))
 
-handed-up-by-readers-requires : tie.Need-handed-up-by-readers-requires
-handed-up-by-readers-requires c κs = search needs
+user-data-by-readers-requires : tie.Need-user-data-by-readers-requires
+user-data-by-readers-requires c κs = search needs
 
 returns : tie.Need-returns
 returns c =
@@ -29,14 +29,14 @@ returns c =
     let ns = take (a .p .normal .to) (a .normal .now) in
     let rs = take (a .p .redundant .to) (a .redundant .now) in
     let is = start .pre .1 in
-    ap length (c .handed-up-by-readers .ensures .0) ∙ ap (λ (t : Taken). length (userDataOf ns rs t)) is
+    ap length (c .user-data-by-readers .ensures .0) ∙ ap (λ (t : Taken). length (userDataOf ns rs t)) is
     ∙ counts-its-user-data ns (a .p .normal .from) rs (a .p .redundant .from) (a .p .state) ∙ sym (ap (λ (t : Taken). t .size) is)
 
 pub count-data-spec : {M : Type 1} → statement M
 count-data-spec =
     tie.close
     (tie.spec
-    slice-aggregate-handed-up-by-readers
-    slice-aggregate-handed-up-by-readers-2
-    handed-up-by-readers-requires
+    slice-aggregate-user-data-by-readers
+    slice-aggregate-user-data-by-readers-2
+    user-data-by-readers-requires
     returns)

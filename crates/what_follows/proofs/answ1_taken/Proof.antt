@@ -8,8 +8,8 @@ use Rattle.what_follows.proofs.answ1_taken.Tie as tie
 reply-header-requires : tie.Need-reply-header-requires
 reply-header-requires c κs = search needs
 
-empty-requires : tie.Need-empty-requires
-empty-requires c κs = search needs
+empty-tail-requires : tie.Need-empty-tail-requires
+empty-tail-requires c κs = search needs
 
 answered-requires : tie.Need-answered-requires
 answered-requires c κs = search needs
@@ -36,7 +36,7 @@ returns c =
       c .before .before .max-of .ensures,
       c .before .before .before .min-of .ensures,
       c .before .before .before .before .answered .ensures,
-      c .before .before .before .before .before .empty .ensures,
+      c .before .before .before .before .before .empty-tail .ensures,
       c .before .before .before .before .before .before .reply-header .ensures,
     )
 
@@ -45,7 +45,7 @@ answ1-taken-spec =
     tie.close
     (tie.spec
     reply-header-requires
-    empty-requires
+    empty-tail-requires
     answered-requires
     min-of-requires
     max-of-requires

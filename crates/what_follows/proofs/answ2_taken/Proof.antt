@@ -4,8 +4,6 @@ use Rattle.what_follows.specs.Follows.{answ2Taken}
 use borrow.Author.Needs.{needs}
 use Rattle.what_follows.proofs.answ2_taken.Statement.{statement}
 use Rattle.what_follows.proofs.answ2_taken.Tie as tie
-use Rattle.connection.proofs.Connection.with_offsets.Reads as Connection-with-offsets-reads
-use Rattle.message.proofs.Tail.with_offsets.Reads as Tail-with-offsets-reads
 
 min-of-requires : tie.Need-min-of-requires
 min-of-requires c κs = search needs
@@ -16,14 +14,14 @@ max-of-requires c κs = search needs
 reply-header-requires : tie.Need-reply-header-requires
 reply-header-requires c κs = search needs
 
-with-offsets-requires : tie.Need-with-offsets-requires
-with-offsets-requires c κs = search needs
+offsets-tail-requires : tie.Need-offsets-tail-requires
+offsets-tail-requires c κs = search needs
 
 answered-requires : tie.Need-answered-requires
 answered-requires c κs = search needs
 
-with-offsets-requires-2 : tie.Need-with-offsets-requires-2
-with-offsets-requires-2 c κs = search needs
+with-offsets-requires : tie.Need-with-offsets-requires
+with-offsets-requires c κs = search needs
 
 sending-requires : tie.Need-sending-requires
 sending-requires c κs = search needs
@@ -34,9 +32,9 @@ returns c =
     search (
       tests,
       c .sending .ensures,
-      c .before .with-offsets2 .ensures,
+      c .before .with-offsets .ensures,
       c .before .before .answered .ensures,
-      c .before .before .before .with-offsets .ensures,
+      c .before .before .before .offsets-tail .ensures,
       c .before .before .before .before .reply-header .ensures,
       c .before .before .before .before .before .max-of .ensures,
       c .before .before .before .before .before .before .min-of .ensures,
@@ -49,8 +47,8 @@ answ2-taken-spec =
     min-of-requires
     max-of-requires
     reply-header-requires
-    with-offsets-requires
+    offsets-tail-requires
     answered-requires
-    with-offsets-requires-2
+    with-offsets-requires
     sending-requires
     returns)

@@ -8,8 +8,8 @@ use Rattle.what_follows.proofs.est_taken.Tie as tie
 reply-header-requires : tie.Need-reply-header-requires
 reply-header-requires c κs = search needs
 
-with-check-requires : tie.Need-with-check-requires
-with-check-requires c κs = search needs
+check-tail-requires : tie.Need-check-tail-requires
+check-tail-requires c κs = search needs
 
 clocked-requires : tie.Need-clocked-requires
 clocked-requires c κs = search needs
@@ -36,7 +36,7 @@ returns c =
       c .before .before .sent .ensures,
       c .before .before .before .heard .ensures,
       c .before .before .before .before .clocked .ensures,
-      c .before .before .before .before .before .with-check .ensures,
+      c .before .before .before .before .before .check-tail .ensures,
       c .before .before .before .before .before .before .reply-header .ensures,
     )
 
@@ -45,7 +45,7 @@ est-taken-spec =
     tie.close
     (tie.spec
     reply-header-requires
-    with-check-requires
+    check-tail-requires
     clocked-requires
     heard-requires
     sent-requires

@@ -8,8 +8,8 @@ use Rattle.what_follows.proofs.refusing.Tie as tie
 reply-header-requires : tie.Need-reply-header-requires
 reply-header-requires c κs = search needs
 
-with-check-requires : tie.Need-with-check-requires
-with-check-requires c κs = search needs
+check-tail-requires : tie.Need-check-tail-requires
+check-tail-requires c κs = search needs
 
 all-zero-requires : tie.Need-all-zero-requires
 all-zero-requires c κs = search needs
@@ -24,10 +24,10 @@ returns c =
       tests,
       c .comes-to .ensures,
       c .before .all-zero .ensures,
-      c .before .before .with-check .ensures,
+      c .before .before .check-tail .ensures,
       c .before .before .before .reply-header .ensures,
     )
 
 pub refusing-spec : {M : Type 1} → statement M
 refusing-spec =
-    tie.close (tie.spec reply-header-requires with-check-requires all-zero-requires comes-to-requires returns)
+    tie.close (tie.spec reply-header-requires check-tail-requires all-zero-requires comes-to-requires returns)

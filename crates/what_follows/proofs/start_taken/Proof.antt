@@ -8,8 +8,8 @@ use Rattle.what_follows.proofs.start_taken.Tie as tie
 reply-header-requires : tie.Need-reply-header-requires
 reply-header-requires c κs = search needs
 
-with-period-requires : tie.Need-with-period-requires
-with-period-requires c κs = search needs
+period-tail-requires : tie.Need-period-tail-requires
+period-tail-requires c κs = search needs
 
 answered-requires : tie.Need-answered-requires
 answered-requires c κs = search needs
@@ -24,7 +24,7 @@ returns c =
       tests,
       c .sending .ensures,
       c .before .answered .ensures,
-      c .before .before .with-period .ensures,
+      c .before .before .period-tail .ensures,
       c .before .before .before .reply-header .ensures,
     )
 
@@ -33,7 +33,7 @@ start-taken-spec =
     tie.close
     (tie.spec
     reply-header-requires
-    with-period-requires
+    period-tail-requires
     answered-requires
     sending-requires
     returns)

@@ -4,11 +4,11 @@ use borrow.Author.Needs.{needs}
 use Rattle.connection.proofs.Connection.sent.Statement.{statement}
 use Rattle.connection.proofs.Connection.sent.Tie as tie
 
-next-requires : tie.Need-next-requires
-next-requires c κs = search needs
+next-of-requires : tie.Need-next-of-requires
+next-of-requires c κs = search needs
 
 returns : tie.Need-returns
-returns c = search (tests, c .next .ensures)
+returns c = search (tests, c .next-of .ensures)
 
 pub sent-spec : {M : Type 1} → statement M
-sent-spec = tie.close (tie.spec next-requires returns)
+sent-spec = tie.close (tie.spec next-of-requires returns)

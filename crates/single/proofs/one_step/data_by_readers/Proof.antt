@@ -7,14 +7,14 @@ use borrow.Author.Needs.{needs}
 use Rattle.single.proofs.one_step.data_by_readers.Statement.{statement}
 use Rattle.single.proofs.one_step.data_by_readers.Tie as tie
 
-handed-up-by-readers-requires : tie.Need-handed-up-by-readers-requires
-handed-up-by-readers-requires c κs = search needs
+user-data-by-readers-requires : tie.Need-user-data-by-readers-requires
+user-data-by-readers-requires c κs = search needs
 
 returns : tie.Need-returns
 returns c =
     let start = c .before .before .before in
     let a = start .args in
-    omega (arith, ap length (c .handed-up-by-readers .ensures .0), user-data-within (a .normal .now) (a .redundant .now) (a .taken) 7168 (start .pre .0) (start .pre .1))
+    omega (arith, ap length (c .user-data-by-readers .ensures .0), user-data-within (a .normal .now) (a .redundant .now) (a .taken) 7168 (start .pre .0) (start .pre .1))
 
 pub data-by-readers-spec : {M : Type 1} → statement M
-data-by-readers-spec = tie.close (tie.spec handed-up-by-readers-requires returns)
+data-by-readers-spec = tie.close (tie.spec user-data-by-readers-requires returns)

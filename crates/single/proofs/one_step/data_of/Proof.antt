@@ -7,14 +7,14 @@ use borrow.Author.Needs.{needs}
 use Rattle.single.proofs.one_step.data_of.Statement.{statement}
 use Rattle.single.proofs.one_step.data_of.Tie as tie
 
-user-data-requires : tie.Need-user-data-requires
-user-data-requires c κs = search needs
+user-data-of-requires : tie.Need-user-data-of-requires
+user-data-of-requires c κs = search needs
 
 returns : tie.Need-returns
 returns c =
     let start = c .before .before .before in
     let a = start .args in
-    omega (arith, ap length (c .user-data .ensures .0), user-data-within (a .normal .now) (a .redundant .now) (a .taken) 7168 (start .pre .0) (start .pre .1))
+    omega (arith, ap length (c .user-data-of .ensures .0), user-data-within (a .normal .now) (a .redundant .now) (a .taken) 7168 (start .pre .0) (start .pre .1))
 
 pub data-of-spec : {M : Type 1} → statement M
-data-of-spec = tie.close (tie.spec user-data-requires returns)
+data-of-spec = tie.close (tie.spec user-data-of-requires returns)

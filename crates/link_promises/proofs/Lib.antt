@@ -1,0 +1,8 @@
+-- The promises of every step, proved from what may follow it (Outcome).
+pub mod Accepted
+pub mod Alike
+pub mod Cases
+pub mod Forward
+pub mod Outcome
+pub mod Promises
+pub mod Seen

@@ -1,0 +1,2 @@
+-- What is promised of every step over two links.
+pub mod Promises

@@ -1,0 +1,3 @@
+-- DEMAND-2: what is written and read back, of packets and of messages.
+pub mod Packet
+pub mod Message
