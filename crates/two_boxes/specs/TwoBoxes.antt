@@ -8,13 +8,15 @@ use lib.ListN.{length, take, replicate}
 use Rattle.clock.specs.Clock.{centred, goesBack, waitOf}
 use Rattle.clock.specs.declared.Count.{Count}
 use Rattle.clock.specs.declared.Offset.{Offset}
+use Rattle.message.specs.Table.{headerSize, startSize, estSize, endSize}
 use Rattle.connection.specs.declared.Settings.{Settings}
 use Rattle.connection.specs.declared.Connection.{Connection}
 use Rattle.connection.specs.Connection.{closed, opened, outOfRange, allZero}
-use Rattle.what_follows.specs.declared.Outcome.{Outcome}
 use Rattle.what_follows.specs.Follows.{offsetBetween}
+use Rattle.calls.specs.declared.Given.{Given}
+use Rattle.calls.specs.declared.Call.{Call}
 use Rattle.calls.specs.declared.Answer.{Answer}
-use Rattle.calls.specs.Calls.{beginOutcome, receiveOutcome, answerOf, outAfter}
+use Rattle.calls.specs.Calls.{initiator, responder, given, Leaves, made}
 
 -- ---- two boxes, the counts of their calls, and the out buffers
 
@@ -52,38 +54,50 @@ pub record Boxes : Type 0 where
 
 -- ---- the seven calls, each on the record that the box's call before left
 
--- the bytes that a call wrote at the start of its out buffer
-abbrev pub sentBy : Outcome → List ℕ → List ℕ
-sentBy o out = take (answerOf o [] .written) (outAfter o [] out)
+-- what a box's begin is given, in its role
+abbrev pub givenTo : Box → ℕ → Given
+givenTo x role = given role (x .settings) (x .first) (x .period)
+
+-- what a call says
+abbrev pub saidBy : Leaves → Answer
+saidBy x = x .called .answer
+
+-- the record that it leaves
+abbrev pub slotAfter : Leaves → Connection
+slotAfter x = x .called .next
+
+-- the bytes that it wrote at the start of its out buffer
+abbrev pub sentBy : Leaves → List ℕ
+sentBy x = take (saidBy x .written) (x .out)
 
 module _ (b : Boxes) where
   -- the initiator begins at I1
-  unfoldable pub begins : Outcome
-  begins = beginOutcome (b .initiator .slot) 0 (b .initiator .settings) (b .initiator .first) (b .initiator .period) (b .i1) (length (b .out .start))
+  unfoldable pub begins : Leaves
+  begins = made (Call.Begin (givenTo (b .initiator) initiator)) (b .initiator .slot) (b .i1) [] (b .out .start)
 
   -- the responder begins at R0
-  unfoldable pub waits : Outcome
-  waits = beginOutcome (b .responder .slot) 1 (b .responder .settings) (b .responder .first) (b .responder .period) (b .r0) (length (b .out .waits))
+  unfoldable pub waits : Leaves
+  waits = made (Call.Begin (givenTo (b .responder) responder)) (b .responder .slot) (b .r0) [] (b .out .waits)
 
   -- OffsetStart arrives at R1
-  unfoldable pub getsStart : Outcome
-  getsStart = receiveOutcome (waits .next) (b .r1) (sentBy begins (b .out .start)) (length (b .out .answ1))
+  unfoldable pub getsStart : Leaves
+  getsStart = made Call.Receive (slotAfter waits) (b .r1) (sentBy begins) (b .out .answ1)
 
   -- OffsetAnsw1 arrives at I2
-  unfoldable pub getsAnsw1 : Outcome
-  getsAnsw1 = receiveOutcome (begins .next) (b .i2) (sentBy getsStart (b .out .answ1)) (length (b .out .answ2))
+  unfoldable pub getsAnsw1 : Leaves
+  getsAnsw1 = made Call.Receive (slotAfter begins) (b .i2) (sentBy getsStart) (b .out .answ2)
 
   -- OffsetAnsw2 arrives at R3
-  unfoldable pub getsAnsw2 : Outcome
-  getsAnsw2 = receiveOutcome (getsStart .next) (b .r3) (sentBy getsAnsw1 (b .out .answ2)) (length (b .out .est))
+  unfoldable pub getsAnsw2 : Leaves
+  getsAnsw2 = made Call.Receive (slotAfter getsStart) (b .r3) (sentBy getsAnsw1) (b .out .est)
 
   -- OffsetEst arrives at I4
-  unfoldable pub getsEst : Outcome
-  getsEst = receiveOutcome (getsAnsw1 .next) (b .i4) (sentBy getsAnsw2 (b .out .est)) (length (b .out .end))
+  unfoldable pub getsEst : Leaves
+  getsEst = made Call.Receive (slotAfter getsAnsw1) (b .i4) (sentBy getsAnsw2) (b .out .end)
 
   -- OffsetEnd arrives at R5
-  unfoldable pub getsEnd : Outcome
-  getsEnd = receiveOutcome (getsAnsw2 .next) (b .r5) (sentBy getsEst (b .out .end)) (length (b .out .last))
+  unfoldable pub getsEnd : Leaves
+  getsEnd = made Call.Receive (slotAfter getsAnsw2) (b .r5) (sentBy getsEst) (b .out .last)
 
 -- ---- the offsets, own minus peer, with R2 = R1 and I3 = I2
 
@@ -116,8 +130,8 @@ pub record CanBegin (x : Box) : Type 0 where
   pub first : x .first < 2 ^ 16
   pub period : x .period < 2 ^ 32
 
--- Both boxes can begin, delays and reply times are within T_start, and the out buffers have room. Counts and numbers may wrap. That no clock goes back
--- within the exchange need not be asked: a wait under T_start is under 60,000 ticks.
+-- Both boxes can begin, delays and reply times are within T_start, and the out buffers have room. Counts and numbers may wrap. That no
+-- clock goes back within the exchange need not be asked: a wait under T_start is under 60,000 ticks.
 pub record Joined (b : Boxes) : Type 0 where
   pub initiator : CanBegin (b .initiator)
   pub responder : CanBegin (b .responder)
@@ -134,13 +148,13 @@ pub record Joined (b : Boxes) : Type 0 where
   pub in-time-for-answ2 : waitOf (b .r3 .0) (b .r1 .0) < b .responder .settings .«t_start»
   pub in-time-for-est : waitOf (b .i4 .0) (b .i2 .0) < b .initiator .settings .«t_start»
   pub in-time-for-end : waitOf (b .r5 .0) (b .r3 .0) < b .responder .settings .«t_start»
-  -- room in the out buffers: 19 at the initiator's begin, none at the responder's, 25 at each receive
-  pub room-for-start : 19 ≤ length (b .out .start)
-  pub room-for-answ1 : 25 ≤ length (b .out .answ1)
-  pub room-for-answ2 : 25 ≤ length (b .out .answ2)
-  pub room-for-est : 25 ≤ length (b .out .est)
-  pub room-for-end : 25 ≤ length (b .out .end)
-  pub room-at-last : 25 ≤ length (b .out .last)
+  -- room in the out buffers: for OffsetStart at the initiator's begin, none at the responder's, for OffsetEst at each receive
+  pub room-for-start : startSize ≤ length (b .out .start)
+  pub room-for-answ1 : estSize ≤ length (b .out .answ1)
+  pub room-for-answ2 : estSize ≤ length (b .out .answ2)
+  pub room-for-est : estSize ≤ length (b .out .est)
+  pub room-for-end : estSize ≤ length (b .out .end)
+  pub room-at-last : estSize ≤ length (b .out .last)
 
 -- ---- what is promised
 
@@ -153,8 +167,8 @@ pub record Succeeds (a : Answer) (size : ℕ) : Type 0 where
 -- the record is open, with these offsets
 pub record OpenWith (least most : Offset) (c : Connection) : Type 0 where
   pub phase : c .phase ≡ opened
-  pub min : c .min ≡ least
-  pub max : c .max ≡ most
+  pub min : c .offsets .min ≡ least
+  pub max : c .offsets .max ≡ most
 
 -- a call answers 209 and its slot is released, and it wrote so many bytes
 pub record FailsCheck (a : Answer) (size : ℕ) : Type 0 where
@@ -162,27 +176,27 @@ pub record FailsCheck (a : Answer) (size : ℕ) : Type 0 where
   pub released : a .released ≡ true
   pub written : a .written ≡ size
 
--- up to OffsetEst: messages 1 to 4 are sent, of 19, 19, 15 and 25 bytes
+-- up to OffsetEst: messages 1 to 4 are sent
 pub record UpToEst (b : Boxes) : Type 0 where
-  pub begins : Succeeds (answerOf (begins b) []) 19
-  pub waits : Succeeds (answerOf (waits b) []) 0
-  pub gets-start : Succeeds (answerOf (getsStart b) []) 19
-  pub gets-answ1 : Succeeds (answerOf (getsAnsw1 b) []) 15
-  pub gets-answ2 : Succeeds (answerOf (getsAnsw2 b) []) 25
+  pub begins : Succeeds (saidBy (begins b)) startSize
+  pub waits : Succeeds (saidBy (waits b)) 0
+  pub gets-start : Succeeds (saidBy (getsStart b)) startSize
+  pub gets-answ1 : Succeeds (saidBy (getsAnsw1 b)) headerSize
+  pub gets-answ2 : Succeeds (saidBy (getsAnsw2 b)) estSize
 
--- the initiator sends OffsetEnd 1, of 16 bytes, and both boxes are open
+-- the initiator sends OffsetEnd 1, and both boxes are open
 pub record BothOpen (b : Boxes) : Type 0 where
   pub before : UpToEst b
-  pub gets-est : Succeeds (answerOf (getsEst b) []) 16
-  pub gets-end : Succeeds (answerOf (getsEnd b) []) 0
-  pub initiator : OpenWith (initiatorMin b) (initiatorMax b) (getsEst b .next)
-  pub responder : OpenWith (responderMin b) (responderMax b) (getsEnd b .next)
+  pub gets-est : Succeeds (saidBy (getsEst b)) endSize
+  pub gets-end : Succeeds (saidBy (getsEnd b)) 0
+  pub initiator : OpenWith (initiatorMin b) (initiatorMax b) (slotAfter (getsEst b))
+  pub responder : OpenWith (responderMin b) (responderMax b) (slotAfter (getsEnd b))
 
--- the initiator sends OffsetEnd 0, of 16 bytes, and both boxes are released
+-- the initiator sends OffsetEnd 0, and both boxes are released
 pub record BothReleased (b : Boxes) : Type 0 where
   pub before : UpToEst b
-  pub gets-est : FailsCheck (answerOf (getsEst b) []) 16
-  pub gets-end : FailsCheck (answerOf (getsEnd b) []) 0
+  pub gets-est : FailsCheck (saidBy (getsEst b)) endSize
+  pub gets-end : FailsCheck (saidBy (getsEnd b)) 0
 
 -- joined, and EST-3 holds: both open. SHUT-1, SHUT-3: not so where a box refuses everything or never sends
 abbrev pub TwoBoxesOpen : Type 0
@@ -200,8 +214,8 @@ SizeIsOfWaits =
 -- so where T_off is at least the T_start of both, EST-3 holds
 abbrev pub TwoBoxesOpenInTime : Type 0
 TwoBoxesOpenInTime =
-    (b : Boxes) → Joined b → b .initiator .settings .«t_start» ≤ b .initiator .settings .«t_off» → b .responder .settings .«t_start» ≤ b .initiator .settings .«t_off»
-    → BothOpen b
+    (b : Boxes) → Joined b → b .initiator .settings .«t_start» ≤ b .initiator .settings .«t_off»
+    → b .responder .settings .«t_start» ≤ b .initiator .settings .«t_off» → BothOpen b
 
 -- ---- a worked pair: min 830, max 910; min -910, max -850; T_off 20 opens, 19 does not
 
@@ -218,7 +232,15 @@ worked t-off =
       r3 = record { 0 = 230 };
       i4 = record { 0 = 1140 };
       r5 = record { 0 = 300 };
-      out = record { start = replicate 19 0; waits = []; answ1 = replicate 25 0; answ2 = replicate 25 0; est = replicate 25 0; end = replicate 25 0; last = replicate 25 0 };
+      out = record {
+        start = replicate startSize 0;
+        answ1 = replicate estSize 0;
+        answ2 = replicate estSize 0;
+        est = replicate estSize 0;
+        end = replicate estSize 0;
+        waits = [];
+        last = replicate estSize 0;
+      };
     }
   where
     settings : ℕ → Settings

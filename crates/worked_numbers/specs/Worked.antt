@@ -6,14 +6,15 @@ use lib.IntN.{ℤ, pos, negℤ}
 use lib.ListN.{replicate}
 use Rattle.clock.specs.declared.Count.{Count}
 use Rattle.number.specs.Number.{distanceOf}
+use Rattle.message.specs.Table.{startSize, estSize}
 use Rattle.message.specs.Read.{messageHeaderOf}
 use Rattle.connection.specs.declared.Settings.{Settings}
+use Rattle.connection.specs.declared.Offsets.{Offsets}
 use Rattle.connection.specs.declared.Connection.{Connection}
 use Rattle.connection.specs.Connection.{opened, allZero}
 use Rattle.peer_faults.specs.Faults.{messageAge}
 use Rattle.what_follows.specs.declared.Outcome.{Outcome}
-use Rattle.calls.specs.Calls.{beginOutcome, receiveOutcome, outAfter, deliveredOf}
-use Rattle.worked_numbers.specs.declared.Offsets.{Offsets}
+use Rattle.calls.specs.Calls.{initiator, responder, given, beginOutcome, receiveOutcome, leftBy, deliveredOf}
 
 -- ---- the settings: N 3, E 0; T_max and T_off are the line's
 
@@ -70,45 +71,45 @@ abbrev pub dataBytes : List ℕ
 dataBytes = 0x4F ∷ 0x4B ∷ []
 
 -- application, of two bytes of number and four of stamp: eight 00, and the data
-abbrev pub application : ℕ → ℕ → List ℕ → List ℕ
-application x y stamp = (0x06 ∷ x ∷ y ∷ []) ++ stamp ++ replicate 8 0x00 ++ dataBytes
+abbrev pub dataMessage : ℕ → ℕ → List ℕ → List ℕ
+dataMessage x y stamp = (0x06 ∷ x ∷ y ∷ []) ++ stamp ++ replicate 8 0x00 ++ dataBytes
 
 -- ---- the initiator, from its begin on
 
 -- I1 1000, number 7, period 50
 unfoldable pub begins : Settings → Outcome
-begins s = beginOutcome allZero 0 s 7 50 (count 1000) 19
+begins s = beginOutcome allZero (given initiator s 7 50) (count 1000) startSize
 
 -- I2 1080
 unfoldable pub getsAnsw1 : Settings → List ℕ → Outcome
-getsAnsw1 s message = receiveOutcome (begins s .next) (count 1080) message 25
+getsAnsw1 s message = receiveOutcome (begins s .next) (count 1080) message estSize
 
 unfoldable pub getsEst : Settings → List ℕ → List ℕ → Outcome
-getsEst s before message = receiveOutcome (getsAnsw1 s before .next) (count 1120) message 25
+getsEst s before message = receiveOutcome (getsAnsw1 s before .next) (count 1120) message estSize
 
 -- open, and the last number is 10
-abbrev pub initiator : ℕ → Connection
-initiator t-max = getsEst (settings t-max 10) (answ1 0x00 0x09) (est 0x00 0x0A) .next
+abbrev pub initiatorOpen : ℕ → Connection
+initiatorOpen t-max = getsEst (settings t-max 10) (answ1 0x00 0x09) (est 0x00 0x0A) .next
 
 -- open, and the last number is 65535
-abbrev pub initiator65535 : Connection
-initiator65535 = getsEst (settings 40 10) (answ1 0xFF 0xFE) (est 0xFF 0xFF) .next
+abbrev pub initiatorOpen65535 : Connection
+initiatorOpen65535 = getsEst (settings 40 10) (answ1 0xFF 0xFE) (est 0xFF 0xFF) .next
 
 -- ---- the responder, from its begin on: R2 200 is the now of the call that takes OffsetStart
 
 unfoldable pub getsStart : Settings → Outcome
-getsStart s = receiveOutcome (beginOutcome allZero 1 s 9 50 (count 150) 0 .next) (count 200) start 25
+getsStart s = receiveOutcome (beginOutcome allZero (given responder s 9 50) (count 150) 0 .next) (count 200) start estSize
 
 -- R3 260
 unfoldable pub getsAnsw2 : Settings → Outcome
-getsAnsw2 s = receiveOutcome (getsStart s .next) (count 260) answ2 25
+getsAnsw2 s = receiveOutcome (getsStart s .next) (count 260) answ2 estSize
 
 unfoldable pub getsEnd : Settings → Outcome
-getsEnd s = receiveOutcome (getsAnsw2 s .next) (count 300) end 25
+getsEnd s = receiveOutcome (getsAnsw2 s .next) (count 300) end estSize
 
 -- open
-abbrev pub responder : ℕ → Connection
-responder t-max = getsEnd (settings t-max 10) .next
+abbrev pub responderOpen : ℕ → Connection
+responderOpen t-max = getsEnd (settings t-max 10) .next
 
 -- ---- an initiator of min 830 that is open before 860: begun at 800, R1 and R2 are -30, R3 is -20, all mod 2^32
 
@@ -132,22 +133,22 @@ earlyEst =
     ++ (0x01 ∷ 0x00 ∷ 0x00 ∷ 0x03 ∷ 0x40 ∷ [])
 
 unfoldable pub earlyGetsAnsw1 : Settings → Outcome
-earlyGetsAnsw1 s = receiveOutcome (beginOutcome allZero 0 s 7 50 (count 800) 19 .next) (count 812) earlyAnsw1 25
+earlyGetsAnsw1 s = receiveOutcome (beginOutcome allZero (given initiator s 7 50) (count 800) startSize .next) (count 812) earlyAnsw1 estSize
 
 unfoldable pub earlyGetsEst : Settings → Outcome
-earlyGetsEst s = receiveOutcome (earlyGetsAnsw1 s .next) (count 820) earlyEst 25
+earlyGetsEst s = receiveOutcome (earlyGetsAnsw1 s .next) (count 820) earlyEst estSize
 
 -- open
-abbrev pub early : ℕ → Connection
-early t-max = earlyGetsEst (settings t-max 10) .next
+abbrev pub earlyOpen : ℕ → Connection
+earlyOpen t-max = earlyGetsEst (settings t-max 10) .next
 
 -- ---- what an open connection answers to an application message, what it delivers, and the age that it judges
 
 abbrev pub answerTo : Connection → ℕ → List ℕ → ℕ
-answerTo c now message = receiveOutcome c (count now) message 25 .answer
+answerTo c now message = receiveOutcome c (count now) message estSize .number
 
 abbrev pub deliveredTo : Connection → ℕ → List ℕ → List ℕ
-deliveredTo c now message = deliveredOf message (receiveOutcome c (count now) message 25 .delivered)
+deliveredTo c now message = deliveredOf message (receiveOutcome c (count now) message estSize .delivered)
 
 abbrev pub ageAt : Connection → ℕ → List ℕ → ℤ
 ageAt c now message = messageAge c (count now) (messageHeaderOf message)
@@ -181,49 +182,49 @@ pub data AllHold : List Row → Type 1 where
 abbrev pub starred : List Row
 starred =
     -- NUM-1: I1 1000, R1 170, R2 200, I2 1080, I3 1100, R3 260 (true offset 850): initiator 830, 880; responder -880, -840
-    getsAnsw1 (settings 40 10) (answ1 0x00 0x09) .next .min .0 gives pos 830
-    ∷ getsAnsw1 (settings 40 10) (answ1 0x00 0x09) .next .max .0 gives pos 880
-    ∷ getsAnsw2 (settings 40 10) .next .min .0 gives negℤ (pos 880)
-    ∷ getsAnsw2 (settings 40 10) .next .max .0 gives negℤ (pos 840)
+    getsAnsw1 (settings 40 10) (answ1 0x00 0x09) .next .offsets .min .0 gives pos 830
+    ∷ getsAnsw1 (settings 40 10) (answ1 0x00 0x09) .next .offsets .max .0 gives pos 880
+    ∷ getsAnsw2 (settings 40 10) .next .offsets .min .0 gives negℤ (pos 880)
+    ∷ getsAnsw2 (settings 40 10) .next .offsets .max .0 gives negℤ (pos 840)
     -- NUM-2: T_off 10
-    ∷ getsEst (settings 40 10) (answ1 0x00 0x09) (est 0x00 0x0A) .answer gives 0
+    ∷ getsEst (settings 40 10) (answ1 0x00 0x09) (est 0x00 0x0A) .number gives 0
     ∷ getsEst (settings 40 10) (answ1 0x00 0x09) (est 0x00 0x0A) .next .phase gives opened
     -- NUM-3: T_off 9
-    ∷ getsEst (settings 40 9) (answ1 0x00 0x09) (est 0x00 0x0A) .answer gives 209
+    ∷ getsEst (settings 40 9) (answ1 0x00 0x09) (est 0x00 0x0A) .number gives 209
     -- NUM-4: stamp 300, now 1170, T_max 40
-    ∷ ageAt (initiator 40) 1170 (application 0x00 0x0B stamp300) gives pos 40
-    ∷ answerTo (initiator 40) 1170 (application 0x00 0x0B stamp300) gives 0
-    ∷ deliveredTo (initiator 40) 1170 (application 0x00 0x0B stamp300) gives dataBytes
+    ∷ ageAt (initiatorOpen 40) 1170 (dataMessage 0x00 0x0B stamp300) gives pos 40
+    ∷ answerTo (initiatorOpen 40) 1170 (dataMessage 0x00 0x0B stamp300) gives 0
+    ∷ deliveredTo (initiatorOpen 40) 1170 (dataMessage 0x00 0x0B stamp300) gives dataBytes
     -- NUM-5: T_max 39
-    ∷ answerTo (initiator 39) 1170 (application 0x00 0x0B stamp300) gives 205
+    ∷ answerTo (initiatorOpen 39) 1170 (dataMessage 0x00 0x0B stamp300) gives 205
     -- NUM-6: now 1130
-    ∷ ageAt (initiator 40) 1130 (application 0x00 0x0B stamp300) gives pos 0
-    ∷ answerTo (initiator 40) 1130 (application 0x00 0x0B stamp300) gives 0
+    ∷ ageAt (initiatorOpen 40) 1130 (dataMessage 0x00 0x0B stamp300) gives pos 0
+    ∷ answerTo (initiatorOpen 40) 1130 (dataMessage 0x00 0x0B stamp300) gives 0
     -- NUM-7: now 1129
-    ∷ ageAt (initiator 40) 1129 (application 0x00 0x0B stamp300) gives negℤ (pos 1)
-    ∷ answerTo (initiator 40) 1129 (application 0x00 0x0B stamp300) gives 206
+    ∷ ageAt (initiatorOpen 40) 1129 (dataMessage 0x00 0x0B stamp300) gives negℤ (pos 1)
+    ∷ answerTo (initiatorOpen 40) 1129 (dataMessage 0x00 0x0B stamp300) gives 206
     -- NUM-8: stamp 1200, now 365; T_max 45 delivers and 44 does not
-    ∷ ageAt (responder 45) 365 (application 0x00 0x0A stamp1200) gives pos 45
-    ∷ answerTo (responder 45) 365 (application 0x00 0x0A stamp1200) gives 0
-    ∷ answerTo (responder 44) 365 (application 0x00 0x0A stamp1200) gives 205
+    ∷ ageAt (responderOpen 45) 365 (dataMessage 0x00 0x0A stamp1200) gives pos 45
+    ∷ answerTo (responderOpen 45) 365 (dataMessage 0x00 0x0A stamp1200) gives 0
+    ∷ answerTo (responderOpen 44) 365 (dataMessage 0x00 0x0A stamp1200) gives 205
     -- NUM-9: stamp 4294967290, now 860; T_max 36 delivers and 35 does not
-    ∷ early 36 .min .0 gives pos 830
-    ∷ ageAt (early 36) 860 (application 0x00 0x0B stamp4294967290) gives pos 36
-    ∷ answerTo (early 36) 860 (application 0x00 0x0B stamp4294967290) gives 0
-    ∷ answerTo (early 35) 860 (application 0x00 0x0B stamp4294967290) gives 205
+    ∷ earlyOpen 36 .offsets .min .0 gives pos 830
+    ∷ ageAt (earlyOpen 36) 860 (dataMessage 0x00 0x0B stamp4294967290) gives pos 36
+    ∷ answerTo (earlyOpen 36) 860 (dataMessage 0x00 0x0B stamp4294967290) gives 0
+    ∷ answerTo (earlyOpen 35) 860 (dataMessage 0x00 0x0B stamp4294967290) gives 205
     -- NUM-10: last 65535, next 0
-    ∷ initiator65535 .peer .number gives 65535
-    ∷ distanceOf (messageHeaderOf (application 0x00 0x00 stamp300) .number) (initiator65535 .peer .number) gives 1
-    ∷ answerTo initiator65535 1170 (application 0x00 0x00 stamp300) gives 0
+    ∷ initiatorOpen65535 .peer .number gives 65535
+    ∷ distanceOf (messageHeaderOf (dataMessage 0x00 0x00 stamp300) .number) (initiatorOpen65535 .peer .number) gives 1
+    ∷ answerTo initiatorOpen65535 1170 (dataMessage 0x00 0x00 stamp300) gives 0
     -- NUM-11: last 10, next 13
-    ∷ initiator 40 .peer .number gives 10
-    ∷ answerTo (initiator 40) 1170 (application 0x00 0x0D stamp300) gives 204
+    ∷ initiatorOpen 40 .peer .number gives 10
+    ∷ answerTo (initiatorOpen 40) 1170 (dataMessage 0x00 0x0D stamp300) gives 204
     -- NUM-12: next 14
-    ∷ answerTo (initiator 40) 1170 (application 0x00 0x0E stamp300) gives 203
+    ∷ answerTo (initiatorOpen 40) 1170 (dataMessage 0x00 0x0E stamp300) gives 203
     -- NUM-13: next 10
-    ∷ answerTo (initiator 40) 1170 (application 0x00 0x0A stamp300) gives 202
+    ∷ answerTo (initiatorOpen 40) 1170 (dataMessage 0x00 0x0A stamp300) gives 202
     -- NUM-16
-    ∷ outAfter (begins (settings 40 10)) [] (replicate 19 0xFF) gives start
+    ∷ leftBy (begins (settings 40 10)) [] (replicate startSize 0xFF) .out gives start
     ∷ []
 
 -- ---- what the program's functions promise

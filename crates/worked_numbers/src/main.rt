@@ -8,12 +8,8 @@ use clock::Age;
 use clock::Count;
 use clock::Offset;
 use clock::Verdict;
+use connection::Offsets;
 use libc::STDOUT_FILENO;
-
-struct Offsets {
-    min: Offset,
-    max: Offset,
-}
 
 // Of one exchange: our message sent, its reported arrival, the answer's arrival, its stamp.
 fn exchange(sent: u32, reported: u32, arrived: u32, stamp: u32) -> Offsets
@@ -24,11 +20,11 @@ fn exchange(sent: u32, reported: u32, arrived: u32, stamp: u32) -> Offsets
     Offsets { min, max }
 }
 
-fn initiator() -> Offsets {
+fn initiator_offsets() -> Offsets {
     exchange(1000, 170, 1080, 200)
 }
 
-fn responder() -> Offsets {
+fn responder_offsets() -> Offsets {
     exchange(200, 1080, 260, 1100)
 }
 
@@ -49,8 +45,8 @@ struct Ages {
 }
 
 fn worked_ages() -> Ages {
-    let o = initiator();
-    let p = responder();
+    let o = initiator_offsets();
+    let p = responder_offsets();
     Ages {
         later: age(1170, 300, o),
         present: age(1130, 300, o),
@@ -112,8 +108,8 @@ fn bytes_line(what: &[u8], s: [u8; 5]) {
 }
 
 fn main() {
-    let o = initiator();
-    let p = responder();
+    let o = initiator_offsets();
+    let p = responder_offsets();
     offset_line(b"initiator min ", o.min);
     offset_line(b"initiator max ", o.max);
     offset_line(b"responder min ", p.min);
