@@ -38,6 +38,7 @@ pub record Buffers : Type 0 where
   pub waits : List ℕ
   pub last : List ℕ
 
+-- two boxes, and when each of their calls is made
 pub record Boxes : Type 0 where
   pub initiator : Box
   pub responder : Box
@@ -246,6 +247,7 @@ worked t-off =
     settings : ℕ → Settings
     settings t-off = record { n = 1; «t_max» = 40; e = 0; «t_start» = 81; «t_off» = t-off; limit = 1 }
 
+-- the offsets of the pair, and what it comes to with T_off 20 and 19
 pub record WorkedPair : Type 0 where
   pub initiator-min : initiatorMin (worked 20) .0 ≡ pos 830
   pub initiator-max : initiatorMax (worked 20) .0 ≡ pos 910

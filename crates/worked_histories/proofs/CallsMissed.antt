@@ -5,30 +5,30 @@ use mathlib.Core.Path.{_≡_, refl, ap}
 use native.Mathlib.Omega.{arith}
 use lib.Dec.{lit<, lit≤}
 use lib.IntN.{ℤ, pos}
-use mathlib.Core.List.{List}
+use mathlib.Core.List.{List, []}
 use Rattle.clock.specs.declared.Count.{Count}
 use Rattle.rules.specs.Modulo.{modulo}
 use Rattle.clock.specs.Clock.{wrapped, centred, goesBack, waitOf, ageOf, verdictOf, offsetRead}
 use Rattle.number.specs.Number.{distanceOf, nextOf}
 use Rattle.field.specs.Field.{fieldOf}
 use Rattle.message.specs.Layout.{dataTail}
-use Rattle.message.specs.Table.{tableOf, lists}
+use Rattle.message.specs.Table.{offsetEst, tableOf, lists}
 use Rattle.message.specs.Read.{laterStamp, checkOver, wholeOf, parsedOf}
 use Rattle.connection.specs.Connection.{_outside_to_, outOfRange, unsound, allZero}
 use Rattle.peer_faults.specs.Faults.{expectationOf, numberJudged, notAhead, beyondN, gap, wrongEcho, accepts, checkFailed, ageNumber, faultOf}
 use Rattle.what_follows.specs.Follows.{answ1Taken, estTaken, dataTaken, messageTaken, raised, openFollowsOf, followsOf, stepOf}
 use Rattle.connection.specs.declared.Connection.{Connection}
-use Rattle.calls.specs.Calls.{startHeader, bad, closeRefusal, tickRefusal, receiveRefusal, beginRefusal, timed, expired, receiveOutcome, beginOutcome}
+use Rattle.calls.specs.Calls.{startHeader, bad, closeRefusal, tickRefusal, receiveRefusal, beginRefusal, timed, expired, receiveOutcome, beginOutcome, initiator}
 use Rattle.promises.specs.Promises.{deliversTo}
 use Rattle.true_age.specs.Clocks.{InBand, countOf}
-use Rattle.true_age.specs.History.{Ours, JudgedBytes, newest, earlier, begun, received}
+use Rattle.true_age.specs.History.{Ours, JudgedBytes, newest, earlier, begun}
 use Rattle.worked_histories.specs.Worlds.{StaysInBand, Runs, arrivals, worldOf, initiators, responders}
-use Rattle.worked_histories.specs.Histories.{room, begin}
-use Rattle.worked_histories.specs.SetUp.{est, atInitiator, offsetStart}
+use Rattle.worked_histories.specs.Histories.{room}
+use Rattle.worked_histories.specs.SetUp.{est, atInitiator, ourStart}
 use Rattle.worked_histories.specs.Initiator.{settings200}
-use Rattle.worked_histories.specs.CallsMissed.{quickPeers, driftingPeers, asReported, openAsReported, earliersAnsw1, AnotherRecord, BegunAfter, TakenBeforeSent, ReportOfAnother}
+use Rattle.worked_histories.specs.CallsMissed.{quickPeers, driftingPeers, asReported, beginAsReported, openAsReported, earliersAnsw1, AnotherRecord, BegunAfter, TakenBeforeSent, ReportOfAnother}
 use Rattle.worked_histories.proofs.Worlds.{responders-run, gaining-runs, at-least, at-most}
-use Rattle.worked_histories.proofs.Histories.{type-4-on, Reaches, judges}
+use Rattle.worked_histories.proofs.Histories.{type-4-on, Reaches, received, judges}
 use Rattle.worked_histories.proofs.SetUp.{initiator-set-up}
 
 -- ---- the clocks
@@ -81,8 +81,8 @@ before-drift =
 abbrev pub number : Count → ℕ
 number c = c .0
 
-abbrev minOf : Connection → ℤ
-minOf c = c .min .0
+abbrev offsetMin : Connection → ℤ
+offsetMin c = c .offsets .min .0
 
 -- ---- each premise missed
 
@@ -93,8 +93,8 @@ another-record =
       runs = responders-run;
       band = no-drift (arrivals 1020 1090 1120);
       message = judges (initiator-set-up responders responders-run refl refl refl settings200 refl newest) refl
-          (lit≤ tt) (lit≤ tt) (lit≤ tt) (dataTail 1) refl (lit< tt) refl (offsetStart responders responders-run) (earlier (earlier newest)) refl refl;
-      record-missed = λ e. let f : pos 930 ≡ pos 830 = ap minOf e in let g : _≡_ {A = ℕ} 930 830 = cc in omega arith;
+          (lit≤ tt) (lit≤ tt) (lit≤ tt) (dataTail 1) refl (lit< tt) refl (ourStart responders responders-run) (earlier (earlier newest)) refl refl;
+      record-missed = λ e. let f : pos 930 ≡ pos 830 = ap offsetMin e in let g : _≡_ {A = ℕ} 930 830 = cc in omega arith;
       numbers-are = refl;
       claim-fails = λ claim. claim .handed-up refl .le;
     }
@@ -109,7 +109,7 @@ begun-after =
       est-since = lit≤ tt;
       message-since = lit≤ tt;
       message = judges (initiator-set-up quickPeers quick-runs refl refl refl settings200 refl newest) refl
-          (lit≤ tt) (lit≤ tt) (lit≤ tt) (dataTail 1) refl (lit< tt) refl (offsetStart quickPeers quick-runs) (earlier (earlier newest)) refl refl;
+          (lit≤ tt) (lit≤ tt) (lit≤ tt) (dataTail 1) refl (lit< tt) refl (ourStart quickPeers quick-runs) (earlier (earlier newest)) refl refl;
       begun-missed = λ h. omega arith;
       claim-fails = λ claim. claim .handed-up refl .le;
     }
@@ -137,14 +137,14 @@ module _ (first : ℕ) where
   start-as-reported = record { at = 1000; header = startHeader 7 (countOf 1000) }
 
   pub opens-as-reported : (reports : List ℕ)
-      → JudgedBytes (asReported first responders-run) 1000 (begin (asReported first responders-run) 0 settings200 7 50 1000 .log) 1080 (parsedOf reports)
-      → Reaches (asReported first responders-run) 1000 0 settings200 (openAsReported first reports responders-run)
+      → JudgedBytes (asReported first responders-run) 1000 (beginAsReported first responders-run .log) 1080 (parsedOf reports)
+      → Reaches (asReported first responders-run) 1000 initiator settings200 (openAsReported first reports responders-run)
   unfolding modulo wrapped centred goesBack waitOf ageOf verdictOf offsetRead distanceOf nextOf fieldOf tableOf lists laterStamp checkOver wholeOf parsedOf _outside_to_ outOfRange unsound expectationOf numberJudged notAhead beyondN gap wrongEcho accepts checkFailed ageNumber faultOf answ1Taken estTaken dataTaken messageTaken raised openFollowsOf followsOf stepOf bad closeRefusal tickRefusal receiveRefusal beginRefusal timed expired receiveOutcome beginOutcome deliversTo
   opens-as-reported reports judged =
       received
-      (received (begun allZero 7 50 1000 room (λ _. lit≤ tt) refl) 1080 (lit≤ tt) reports room (λ _ _. judged))
+      (received (begun allZero 7 50 1000 [] room (λ _. lit≤ tt) refl) 1080 (lit≤ tt) reports room (λ _ _. judged))
       1110 (lit≤ tt) est room
-      (λ _ _. record { sent = 1095; since = lit≤ tt; onward = lit≤ tt; stamped = refl; reports = type-4-on 4 (lit< tt) })
+      (λ _ _. record { sent = 1095; since = lit≤ tt; onward = lit≤ tt; stamped = refl; reports = type-4-on offsetEst (lit< tt) })
 
 pub report-of-another : ReportOfAnother
 unfolding modulo wrapped centred goesBack waitOf ageOf verdictOf offsetRead distanceOf nextOf fieldOf tableOf lists laterStamp checkOver wholeOf parsedOf _outside_to_ outOfRange unsound expectationOf numberJudged notAhead beyondN gap wrongEcho accepts checkFailed ageNumber faultOf answ1Taken estTaken dataTaken messageTaken raised openFollowsOf followsOf stepOf bad closeRefusal tickRefusal receiveRefusal beginRefusal timed expired receiveOutcome beginOutcome deliversTo
@@ -162,7 +162,7 @@ report-of-another =
       claim-fails = λ claim. claim .handed-up refl .le;
     }
   where
-    opens : Reaches (asReported 1005 responders-run) 1000 0 settings200 (openAsReported 1005 earliersAnsw1 responders-run)
+    opens : Reaches (asReported 1005 responders-run) 1000 initiator settings200 (openAsReported 1005 earliersAnsw1 responders-run)
     opens =
         opens-as-reported 1005 earliersAnsw1
         (record {

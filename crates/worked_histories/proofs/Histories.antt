@@ -2,39 +2,68 @@
 -- Assumes nothing.
 use Prim.Native.Nat.{ℕ, _+_, _^_, _<_}
 use mathlib.Core.Path.{_≡_, refl, sym, ap, _∙_, subst}
-use mathlib.Core.Bool.{true≢false}
-use mathlib.Core.List.{List}
+use mathlib.Core.Bool.{false, true≢false}
+use mathlib.Core.List.{List, []}
 use mathlib.Core.Logic.{_⊎_, ⊎-elim}
 use native.Mathlib.Omega.{arith}
 use lib.Dec.{eqb}
+use lib.ListN.{length}
 use lib.IntN.{ℤ}
+use Rattle.message.specs.Table.{offsetAnsw1, offsetAnsw2}
 use Rattle.message.specs.Read.{messageHeaderOf, parsedOf}
 use Rattle.message.specs.declared.Tail.{Tail}
 use Rattle.message.specs.declared.Parsed.{Parsed}
 use Rattle.connection.specs.declared.Settings.{Settings}
+use Rattle.connection.specs.declared.Connection.{Connection}
 use Rattle.connection.specs.Connection.{opened}
 use Rattle.peer_faults.specs.Faults.{messageAge}
-use Rattle.calls.specs.Calls.{receiveOutcome}
+use Rattle.calls.specs.declared.Call.{Call}
+use Rattle.calls.specs.Calls.{receiveOutcome, sendOutcome, tickOutcome}
 use Rattle.true_age.specs.Clocks.{World, countOf}
-use Rattle.true_age.specs.History.{Ours, Written, History, received}
+use Rattle.true_age.specs.History.{Ours, withWritten, Written, JudgedBytes, History, called}
 use Rattle.true_age.specs.Claim.{transit, trueAge, AgeClaim}
 use Rattle.true_age.proofs.Demand3.{demand-3}
 use Rattle.worked_histories.specs.Histories.{room, Place, receive, Common, commonOf, Numbers, numbersOf, Judges, Claimed, SaidByDemand3}
 
--- only types 2 and 3 report an arrival that is asked for
-pub type-1 : {A : Type 0} (k : ℕ) → k < 2 → (k ≡ 2) ⊎ (k ≡ 3) → A
+-- only OffsetAnsw1 and OffsetAnsw2 report an arrival that is asked for
+pub type-1 : {A : Type 0} (k : ℕ) → k < offsetAnsw1 → (k ≡ offsetAnsw1) ⊎ (k ≡ offsetAnsw2) → A
 type-1 k h = ⊎-elim (λ e. let z : ⊥ = omega arith in absurd z) (λ e. let z : ⊥ = omega arith in absurd z)
 
-pub type-4-on : {A : Type 0} (k : ℕ) → 3 < k → (k ≡ 2) ⊎ (k ≡ 3) → A
+pub type-4-on : {A : Type 0} (k : ℕ) → offsetAnsw2 < k → (k ≡ offsetAnsw1) ⊎ (k ≡ offsetAnsw2) → A
 type-4-on k h = ⊎-elim (λ e. let z : ⊥ = omega arith in absurd z) (λ e. let z : ⊥ = omega arith in absurd z)
 
 -- where a history has come to
 abbrev pub Reaches : (W : World) → W .Moment → ℕ → Settings → Place W → Type 0
 Reaches W began role settings p = History W began role settings (p .log) (p .last) (p .c)
 
+-- a receive, a send and a tick in a history: none of them begins, and only the receive takes a message
+module _ {W : World} {began : W .Moment} {role : ℕ} {settings : Settings} {log : List (Ours W)} {t : W .Moment} {c : Connection}
+    (history : History W began role settings log t c) (u : W .Moment) (h : W .early t u) where
+  pub received : (message : List ℕ) (room : ℕ)
+      → (eqb (c .phase) opened ≡ false → receiveOutcome c (countOf (W .ours u)) message room .number ≡ 0
+      → JudgedBytes W began log u (parsedOf message))
+      → History W began role settings
+      (withWritten W u (receiveOutcome c (countOf (W .ours u)) message room .reply) log)
+      u
+      (receiveOutcome c (countOf (W .ours u)) message room .next)
+  received message room judged = called history u h Call.Receive message room (λ e. absurd (true≢false (sym e))) judged
+
+  pub sent : (lent : List ℕ) (room : ℕ)
+      → History W began role settings
+      (withWritten W u (sendOutcome c (countOf (W .ours u)) (length lent) room .reply) log)
+      u
+      (sendOutcome c (countOf (W .ours u)) (length lent) room .next)
+  sent lent room = called history u h Call.Send lent room (λ e. absurd (true≢false (sym e))) (λ _ _. tt)
+
+  pub ticked : History W began role settings
+      (withWritten W u (tickOutcome c (countOf (W .ours u)) .reply) log)
+      u
+      (tickOutcome c (countOf (W .ours u)) .next)
+  ticked = called history u h Call.Tick [] 0 (λ e. absurd (true≢false (sym e))) (λ _ _. tt)
+
 -- any receive on an open record
-pub goes-on : {W : World} {began : W .Moment} {role : ℕ} {settings : Settings} (p : Place W) → Reaches W began role settings p → p .c .phase ≡ opened
-    → (u : W .Moment) → W .early (p .last) u → (message : List ℕ) → Reaches W began role settings (receive W p u message)
+pub goes-on : {W : World} {began : W .Moment} {role : ℕ} {settings : Settings} (p : Place W) → Reaches W began role settings p
+    → p .c .phase ≡ opened → (u : W .Moment) → W .early (p .last) u → (message : List ℕ) → Reaches W began role settings (receive W p u message)
 goes-on p history is-open u h message =
     received history u h message room (λ f _. absurd (true≢false (sym (ap (λ (x : ℕ). eqb x opened) is-open) ∙ f)))
 
@@ -43,7 +72,7 @@ pub judges : {W : World} {began since : W .Moment} {role : ℕ} {settings : Sett
     {sent taken : W .Moment} {message : List ℕ} {k : Common} {n : Numbers}
     → Reaches W began role settings p → p .c .phase ≡ opened
     → W .early (p .last) taken → W .early since sent → W .early sent taken
-    → (tail : Tail) → parsedOf message ≡ Parsed.Whole (messageHeaderOf message) tail → 3 < messageHeaderOf message .kind
+    → (tail : Tail) → parsedOf message ≡ Parsed.Whole (messageHeaderOf message) tail → offsetAnsw2 < messageHeaderOf message .kind
     → messageHeaderOf message .stamp ≡ countOf (W .peers sent)
     → (first : Ours W) → Written W 0 first (p .log)
     → commonOf W settings (k .j) first ≡ k → numbersOf W k (p .c) sent taken (messageHeaderOf message) message ≡ n
@@ -76,7 +105,7 @@ said-by-demand3 W began role settings p sent taken message k n m band bound =
     age = messageAge (p .c) (countOf (W .ours taken)) (m .header)
 
     answers : ℕ
-    answers = receiveOutcome (p .c) (countOf (W .ours taken)) message room .answer
+    answers = receiveOutcome (p .c) (countOf (W .ours taken)) message room .number
 
     same-d : transit W (m .first) ≡ k .d
     same-d = ap (λ (x : Common). x .d) (m .common-is)

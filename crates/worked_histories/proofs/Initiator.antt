@@ -4,6 +4,7 @@ use Prim.Native.Nat.{ℕ, _+_, _-_, _≤_}
 use mathlib.Core.Path.{refl}
 use native.Mathlib.Omega.{arith}
 use lib.Dec.{lit<, lit≤}
+use lib.ListN.{replicate}
 use lib.IntN.{pos}
 use Rattle.rules.specs.Modulo.{modulo}
 use Rattle.clock.specs.Clock.{wrapped, centred, goesBack, waitOf, ageOf, verdictOf, offsetRead}
@@ -15,14 +16,14 @@ use Rattle.message.specs.Read.{laterStamp, checkOver, wholeOf, parsedOf}
 use Rattle.connection.specs.Connection.{_outside_to_, outOfRange, unsound}
 use Rattle.peer_faults.specs.Faults.{expectationOf, numberJudged, notAhead, beyondN, gap, wrongEcho, accepts, checkFailed, ageNumber, faultOf}
 use Rattle.what_follows.specs.Follows.{answ1Taken, estTaken, dataTaken, messageTaken, raised, openFollowsOf, followsOf, stepOf}
-use Rattle.calls.specs.Calls.{bad, closeRefusal, tickRefusal, receiveRefusal, sendRefusal, beginRefusal, timed, expired, receiveOutcome, tickOutcome, sendOutcome, beginOutcome}
-use Rattle.true_age.specs.History.{newest, earlier, sent, ticked}
+use Rattle.calls.specs.Calls.{bad, closeRefusal, tickRefusal, receiveRefusal, sendRefusal, beginRefusal, timed, expired, receiveOutcome, tickOutcome, sendOutcome, beginOutcome, initiator}
+use Rattle.true_age.specs.History.{newest, earlier}
 use Rattle.worked_histories.specs.Worlds.{StaysInBand, Runs, responders, past}
 use Rattle.worked_histories.specs.Histories.{room}
-use Rattle.worked_histories.specs.SetUp.{atInitiator, offsetStart}
+use Rattle.worked_histories.specs.SetUp.{atInitiator, ourStart}
 use Rattle.worked_histories.specs.Initiator.{peers, settings, freshMessage, gapMessage, lateMessage, futureMessage, world, afterSend, afterFresh, afterGap, afterLate, afterTick, afterFuture, InitiatorMeets, slowPeers, settings200, LateReached}
 use Rattle.worked_histories.proofs.Worlds.{past-most, responders-run, gaining-runs, responders-stand, at-least, at-most}
-use Rattle.worked_histories.proofs.Histories.{Reaches, goes-on, judges}
+use Rattle.worked_histories.proofs.Histories.{Reaches, sent, ticked, goes-on, judges}
 use Rattle.worked_histories.proofs.SetUp.{initiator-set-up}
 
 runs : Runs peers
@@ -49,33 +50,33 @@ initiator-meets =
       runs = runs;
       band = band;
       fresh = judges sends-4 refl
-          (lit≤ tt) (lit≤ tt) (lit≤ tt) (dataTail 1) refl (lit< tt) refl (offsetStart peers runs) (earlier (earlier (earlier newest))) refl refl;
+          (lit≤ tt) (lit≤ tt) (lit≤ tt) (dataTail 1) refl (lit< tt) refl (ourStart peers runs) (earlier (earlier (earlier newest))) refl refl;
       gap = judges takes-fresh refl
-          (lit≤ tt) (lit≤ tt) (lit≤ tt) (dataTail 1) refl (lit< tt) refl (offsetStart peers runs) (earlier (earlier (earlier newest))) refl refl;
+          (lit≤ tt) (lit≤ tt) (lit≤ tt) (dataTail 1) refl (lit< tt) refl (ourStart peers runs) (earlier (earlier (earlier newest))) refl refl;
       late = judges takes-gap refl
-          (lit≤ tt) (lit≤ tt) (lit≤ tt) (dataTail 1) refl (lit< tt) refl (offsetStart peers runs) (earlier (earlier (earlier newest))) refl refl;
+          (lit≤ tt) (lit≤ tt) (lit≤ tt) (dataTail 1) refl (lit< tt) refl (ourStart peers runs) (earlier (earlier (earlier newest))) refl refl;
       future = judges ticks refl
-          (lit≤ tt) (lit≤ tt) (lit≤ tt) (dataTail 1) refl (lit< tt) refl (offsetStart peers runs) (earlier (earlier (earlier newest))) refl refl;
+          (lit≤ tt) (lit≤ tt) (lit≤ tt) (dataTail 1) refl (lit< tt) refl (ourStart peers runs) (earlier (earlier (earlier newest))) refl refl;
       oldest = judges takes-future refl
-          (lit≤ tt) (lit≤ tt) (lit≤ tt) (dataTail 1) refl (lit< tt) refl (offsetStart peers runs) (earlier (earlier (earlier newest))) refl refl;
+          (lit≤ tt) (lit≤ tt) (lit≤ tt) (dataTail 1) refl (lit< tt) refl (ourStart peers runs) (earlier (earlier (earlier newest))) refl refl;
     }
   where
-    sends-4 : Reaches (world runs) 1000 0 settings (afterSend runs)
-    sends-4 = sent (initiator-set-up peers runs refl refl refl settings refl newest) 1130 (lit≤ tt) 4 room
+    sends-4 : Reaches (world runs) 1000 initiator settings (afterSend runs)
+    sends-4 = sent (initiator-set-up peers runs refl refl refl settings refl newest) 1130 (lit≤ tt) (replicate 4 0x55) room
 
-    takes-fresh : Reaches (world runs) 1000 0 settings (afterFresh runs)
+    takes-fresh : Reaches (world runs) 1000 initiator settings (afterFresh runs)
     takes-fresh = goes-on (afterSend runs) sends-4 refl 1172 (lit≤ tt) freshMessage
 
-    takes-gap : Reaches (world runs) 1000 0 settings (afterGap runs)
+    takes-gap : Reaches (world runs) 1000 initiator settings (afterGap runs)
     takes-gap = goes-on (afterFresh runs) takes-fresh refl 1215 (lit≤ tt) gapMessage
 
-    takes-late : Reaches (world runs) 1000 0 settings (afterLate runs)
+    takes-late : Reaches (world runs) 1000 initiator settings (afterLate runs)
     takes-late = goes-on (afterGap runs) takes-gap refl 1271 (lit≤ tt) lateMessage
 
-    ticks : Reaches (world runs) 1000 0 settings (afterTick runs)
+    ticks : Reaches (world runs) 1000 initiator settings (afterTick runs)
     ticks = ticked takes-late 1500 (lit≤ tt)
 
-    takes-future : Reaches (world runs) 1000 0 settings (afterFuture runs)
+    takes-future : Reaches (world runs) 1000 initiator settings (afterFuture runs)
     takes-future = goes-on (afterTick runs) ticks refl 2139 (lit≤ tt) futureMessage
 
 -- ---- the peer's clock stands still
@@ -104,5 +105,5 @@ late-reached =
       runs = slow-runs;
       band = slow-band;
       late = judges (initiator-set-up slowPeers slow-runs refl refl refl settings200 refl newest) refl
-          (lit≤ tt) (lit≤ tt) (lit≤ tt) (dataTail 1) refl (lit< tt) refl (offsetStart slowPeers slow-runs) (earlier (earlier newest)) refl refl;
+          (lit≤ tt) (lit≤ tt) (lit≤ tt) (dataTail 1) refl (lit< tt) refl (ourStart slowPeers slow-runs) (earlier (earlier newest)) refl refl;
     }

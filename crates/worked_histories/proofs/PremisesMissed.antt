@@ -2,6 +2,7 @@
 -- Assumes nothing.
 use Prim.Native.Nat.{ℕ, _+_, _-_, _≤_}
 use mathlib.Core.Path.{_≡_, refl, ap}
+use mathlib.Core.List.{[]}
 use native.Mathlib.Omega.{arith}
 use lib.Dec.{lit<, lit≤}
 use lib.IntN.{pos, negℤ, _+ℤ_}
@@ -11,23 +12,23 @@ use Rattle.clock.specs.Clock.{wrapped, centred, goesBack, waitOf, ageOf, verdic
 use Rattle.number.specs.Number.{distanceOf, nextOf}
 use Rattle.field.specs.Field.{fieldOf}
 use Rattle.message.specs.Layout.{dataTail}
-use Rattle.message.specs.Table.{tableOf, lists}
+use Rattle.message.specs.Table.{offsetEst, tableOf, lists}
 use Rattle.message.specs.Read.{laterStamp, checkOver, wholeOf, parsedOf}
 use Rattle.connection.specs.Connection.{_outside_to_, outOfRange, unsound, allZero}
 use Rattle.peer_faults.specs.Faults.{expectationOf, numberJudged, notAhead, beyondN, gap, wrongEcho, accepts, checkFailed, ageNumber, faultOf}
 use Rattle.what_follows.specs.Follows.{answ1Taken, estTaken, dataTaken, messageTaken, raised, openFollowsOf, followsOf, stepOf}
-use Rattle.calls.specs.Calls.{startHeader, bad, closeRefusal, tickRefusal, receiveRefusal, beginRefusal, timed, expired, receiveOutcome, tickOutcome, beginOutcome}
+use Rattle.calls.specs.Calls.{startHeader, bad, closeRefusal, tickRefusal, receiveRefusal, beginRefusal, timed, expired, receiveOutcome, tickOutcome, beginOutcome, initiator}
 use Rattle.promises.specs.Promises.{deliversTo}
 use Rattle.true_age.specs.Clocks.{countOf}
-use Rattle.true_age.specs.History.{Ours, newest, earlier, begun, received, ticked}
+use Rattle.true_age.specs.History.{Ours, newest, earlier, begun}
 use Rattle.worked_histories.specs.Worlds.{StaysInBand, Runs, arrivals, responders, past, standingBefore}
 use Rattle.worked_histories.specs.Histories.{room}
-use Rattle.worked_histories.specs.SetUp.{answ1, est, atInitiator, offsetStart}
+use Rattle.worked_histories.specs.SetUp.{answ1, est, atInitiator, ourStart}
 use Rattle.worked_histories.specs.Initiator.{slowPeers, settings200}
 use Rattle.worked_histories.specs.CallsMissed.{driftingPeers, asReported, openAsReported}
 use Rattle.worked_histories.specs.PremisesMissed.{afterTick, falseAnsw1, lagging, asCalled, openAsCalled, EachIsNeeded}
 use Rattle.worked_histories.proofs.Worlds.{past-most, responders-run, initiators-stand, standing-before-runs, at-least, at-most}
-use Rattle.worked_histories.proofs.Histories.{type-4-on, Reaches, judges}
+use Rattle.worked_histories.proofs.Histories.{type-4-on, Reaches, received, ticked, judges}
 use Rattle.worked_histories.proofs.SetUp.{initiator-set-up}
 use Rattle.worked_histories.proofs.Initiator.{slow-runs, slow-band}
 use Rattle.worked_histories.proofs.CallsMissed.{no-drift, drifting-runs, number, another-record, begun-after, taken-before-sent, start-as-reported, opens-as-reported, report-of-another}
@@ -69,7 +70,7 @@ each-is-needed =
         runs = slow-runs;
         band = slow-band;
         message = judges ticks refl
-            (lit≤ tt) (lit≤ tt) (lit≤ tt) (dataTail 1) refl (lit< tt) refl (offsetStart slowPeers slow-runs) (earlier (earlier newest)) refl refl;
+            (lit≤ tt) (lit≤ tt) (lit≤ tt) (dataTail 1) refl (lit< tt) refl (ourStart slowPeers slow-runs) (earlier (earlier newest)) refl refl;
         bound-missed = refl;
         claim-fails = λ claim. claim .bounds .least .le;
       };
@@ -77,7 +78,7 @@ each-is-needed =
         runs = slow-runs;
         band = slow-band;
         message = judges (ticked ticks 4000000000 (lit≤ tt)) refl
-            (lit≤ tt) (lit≤ tt) (lit≤ tt) (dataTail 1) refl (lit< tt) refl (offsetStart slowPeers slow-runs) (earlier (earlier newest)) refl refl;
+            (lit≤ tt) (lit≤ tt) (lit≤ tt) (dataTail 1) refl (lit< tt) refl (ourStart slowPeers slow-runs) (earlier (earlier newest)) refl refl;
         bound-missed = lit< tt;
         claim-fails = λ claim. claim .handed-up refl .le;
       };
@@ -91,14 +92,14 @@ each-is-needed =
           sum-is (b .floor) (pos j),
         );
         message = judges (initiator-set-up driftingPeers drifting-runs refl refl refl settings200 refl newest) refl
-            (lit≤ tt) (lit≤ tt) (lit≤ tt) (dataTail 1) refl (lit< tt) refl (offsetStart driftingPeers drifting-runs) (earlier (earlier newest)) refl refl;
+            (lit≤ tt) (lit≤ tt) (lit≤ tt) (dataTail 1) refl (lit< tt) refl (ourStart driftingPeers drifting-runs) (earlier (earlier newest)) refl refl;
         claim-fails = λ claim. claim .handed-up refl .le;
       };
       sent-before = record {
         runs = standing-before-runs;
         band = standing-before-band;
         message = judges (initiator-set-up standingBefore standing-before-runs refl refl refl settings200 refl newest) refl
-            (lit≤ tt) (lit≤ tt) (lit≤ tt) (dataTail 1) refl (lit< tt) refl (offsetStart standingBefore standing-before-runs) (earlier (earlier newest)) refl refl;
+            (lit≤ tt) (lit≤ tt) (lit≤ tt) (dataTail 1) refl (lit< tt) refl (ourStart standingBefore standing-before-runs) (earlier (earlier newest)) refl refl;
         since-missed = λ h. omega arith;
         claim-fails = λ claim. claim .handed-up refl .le;
       };
@@ -108,7 +109,7 @@ each-is-needed =
         runs = responders-run;
         band = no-drift (arrivals 1020 1090 1120);
         message = judges (initiator-set-up responders responders-run refl refl refl settings200 refl newest) refl
-            (lit≤ tt) (lit≤ tt) (lit≤ tt) (dataTail 1) refl (lit< tt) refl (offsetStart responders responders-run) (earlier (earlier newest)) refl refl;
+            (lit≤ tt) (lit≤ tt) (lit≤ tt) (dataTail 1) refl (lit< tt) refl (ourStart responders responders-run) (earlier (earlier newest)) refl refl;
         since = lit≤ tt;
         onward = lit≤ tt;
         stamp-missed = λ e. let f : _≡_ {A = ℕ} 1150 270 = ap number e in omega arith;
@@ -140,10 +141,10 @@ each-is-needed =
       another-record = another-record;
     }
   where
-    ticks : Reaches (atInitiator slowPeers slow-runs) 1000 0 settings200 (afterTick slow-runs)
+    ticks : Reaches (atInitiator slowPeers slow-runs) 1000 initiator settings200 (afterTick slow-runs)
     ticks = ticked (initiator-set-up slowPeers slow-runs refl refl refl settings200 refl newest) 2000000000 (lit≤ tt)
 
-    opens : Reaches (asReported 1000 responders-run) 1000 0 settings200 (openAsReported 1000 falseAnsw1 responders-run)
+    opens : Reaches (asReported 1000 responders-run) 1000 initiator settings200 (openAsReported 1000 falseAnsw1 responders-run)
     opens =
         opens-as-reported 1000 falseAnsw1
         (record {
@@ -157,10 +158,10 @@ each-is-needed =
     first-as-called : Ours (asCalled now-runs responders-run)
     first-as-called = record { at = 1000; header = startHeader 7 (countOf 1000) }
 
-    opens-as-called : Reaches (asCalled now-runs responders-run) 1000 0 settings200 (openAsCalled now-runs responders-run)
+    opens-as-called : Reaches (asCalled now-runs responders-run) 1000 initiator settings200 (openAsCalled now-runs responders-run)
     opens-as-called =
         received
-        (received (begun allZero 7 50 1000 room (λ _. lit≤ tt) refl) 1080 (lit≤ tt) answ1 room
+        (received (begun allZero 7 50 1000 [] room (λ _. lit≤ tt) refl) 1080 (lit≤ tt) answ1 room
         (λ _ _. record {
           sent = 1050;
           since = lit≤ tt;
@@ -169,4 +170,4 @@ each-is-needed =
           reports = λ _. record { which = 0; ours = first-as-called; of-ours = newest; onward = lit≤ tt; echoes = refl; reported = refl };
         }))
         1110 (lit≤ tt) est room
-        (λ _ _. record { sent = 1095; since = lit≤ tt; onward = lit≤ tt; stamped = refl; reports = type-4-on 4 (lit< tt) })
+        (λ _ _. record { sent = 1095; since = lit≤ tt; onward = lit≤ tt; stamped = refl; reports = type-4-on offsetEst (lit< tt) })

@@ -15,10 +15,10 @@ use Rattle.message.specs.Read.{laterStamp, checkOver, wholeOf, parsedOf}
 use Rattle.connection.specs.Connection.{_outside_to_, outOfRange, unsound}
 use Rattle.peer_faults.specs.Faults.{expectationOf, numberJudged, notAhead, beyondN, gap, wrongEcho, checkFailed, ageNumber, faultOf}
 use Rattle.what_follows.specs.Follows.{startTaken, answ2Taken, endTaken, dataTaken, messageTaken, raised, openFollowsOf, followsOf, stepOf}
-use Rattle.calls.specs.Calls.{bad, closeRefusal, tickRefusal, receiveRefusal, beginRefusal, timed, expired, receiveOutcome, beginOutcome}
+use Rattle.calls.specs.Calls.{bad, closeRefusal, tickRefusal, receiveRefusal, beginRefusal, timed, expired, receiveOutcome, beginOutcome, responder}
 use Rattle.true_age.specs.History.{newest, earlier}
 use Rattle.worked_histories.specs.Worlds.{StaysInBand, Runs, initiators, responders, past}
-use Rattle.worked_histories.specs.SetUp.{atResponder, offsetAnsw1}
+use Rattle.worked_histories.specs.SetUp.{atResponder, ourAnsw1}
 use Rattle.worked_histories.specs.Initiator.{settings200}
 use Rattle.worked_histories.specs.Responder.{peers, settings, freshMessage, gapMessage, lateMessage, futureMessage, world, afterEnd, afterFresh, afterGap, afterLate, afterFuture, ResponderMeets, slowPeers, ResponderLateReached}
 use Rattle.worked_histories.proofs.Worlds.{past-most, responders-run, initiators-stand, gaining-runs, at-least, at-most}
@@ -50,30 +50,30 @@ responder-meets =
       runs = runs;
       band = band;
       fresh = judges opens refl
-          (lit≤ tt) (lit≤ tt) (lit≤ tt) (dataTail 1) refl (lit< tt) refl (offsetAnsw1 peers responders-run runs) (earlier newest) refl refl;
+          (lit≤ tt) (lit≤ tt) (lit≤ tt) (dataTail 1) refl (lit< tt) refl (ourAnsw1 peers responders-run runs) (earlier newest) refl refl;
       gap = judges takes-fresh refl
-          (lit≤ tt) (lit≤ tt) (lit≤ tt) (dataTail 1) refl (lit< tt) refl (offsetAnsw1 peers responders-run runs) (earlier newest) refl refl;
+          (lit≤ tt) (lit≤ tt) (lit≤ tt) (dataTail 1) refl (lit< tt) refl (ourAnsw1 peers responders-run runs) (earlier newest) refl refl;
       late = judges takes-gap refl
-          (lit≤ tt) (lit≤ tt) (lit≤ tt) (dataTail 1) refl (lit< tt) refl (offsetAnsw1 peers responders-run runs) (earlier newest) refl refl;
+          (lit≤ tt) (lit≤ tt) (lit≤ tt) (dataTail 1) refl (lit< tt) refl (ourAnsw1 peers responders-run runs) (earlier newest) refl refl;
       future = judges takes-late refl
-          (lit≤ tt) (lit≤ tt) (lit≤ tt) (dataTail 1) refl (lit< tt) refl (offsetAnsw1 peers responders-run runs) (earlier newest) refl refl;
+          (lit≤ tt) (lit≤ tt) (lit≤ tt) (dataTail 1) refl (lit< tt) refl (ourAnsw1 peers responders-run runs) (earlier newest) refl refl;
       oldest = judges takes-future refl
-          (lit≤ tt) (lit≤ tt) (lit≤ tt) (dataTail 1) refl (lit< tt) refl (offsetAnsw1 peers responders-run runs) (earlier newest) refl refl;
+          (lit≤ tt) (lit≤ tt) (lit≤ tt) (dataTail 1) refl (lit< tt) refl (ourAnsw1 peers responders-run runs) (earlier newest) refl refl;
     }
   where
-    opens : Reaches (world responders-run runs) 1000 1 settings (afterEnd responders-run runs)
+    opens : Reaches (world responders-run runs) 1000 responder settings (afterEnd responders-run runs)
     opens = responder-set-up peers responders-run runs refl refl refl refl settings refl newest
 
-    takes-fresh : Reaches (world responders-run runs) 1000 1 settings (afterFresh responders-run runs)
+    takes-fresh : Reaches (world responders-run runs) 1000 responder settings (afterFresh responders-run runs)
     takes-fresh = goes-on (afterEnd responders-run runs) opens refl 1215 (lit≤ tt) freshMessage
 
-    takes-gap : Reaches (world responders-run runs) 1000 1 settings (afterGap responders-run runs)
+    takes-gap : Reaches (world responders-run runs) 1000 responder settings (afterGap responders-run runs)
     takes-gap = goes-on (afterFresh responders-run runs) takes-fresh refl 1260 (lit≤ tt) gapMessage
 
-    takes-late : Reaches (world responders-run runs) 1000 1 settings (afterLate responders-run runs)
+    takes-late : Reaches (world responders-run runs) 1000 responder settings (afterLate responders-run runs)
     takes-late = goes-on (afterGap responders-run runs) takes-gap refl 1316 (lit≤ tt) lateMessage
 
-    takes-future : Reaches (world responders-run runs) 1000 1 settings (afterFuture responders-run runs)
+    takes-future : Reaches (world responders-run runs) 1000 responder settings (afterFuture responders-run runs)
     takes-future = goes-on (afterLate responders-run runs) takes-late refl 2124 (lit≤ tt) futureMessage
 
 -- ---- the peer's clock stands still
@@ -103,5 +103,5 @@ responder-late-reached =
       runs = slow-runs;
       band = slow-band;
       late = judges (responder-set-up slowPeers responders-run slow-runs refl refl refl refl settings200 refl newest) refl
-          (lit≤ tt) (lit≤ tt) (lit≤ tt) (dataTail 1) refl (lit< tt) refl (offsetAnsw1 slowPeers responders-run slow-runs) (earlier newest) refl refl;
+          (lit≤ tt) (lit≤ tt) (lit≤ tt) (dataTail 1) refl (lit< tt) refl (ourAnsw1 slowPeers responders-run slow-runs) (earlier newest) refl refl;
     }

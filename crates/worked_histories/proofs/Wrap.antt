@@ -1,6 +1,7 @@
 -- The premises of demand 3 are met where both counts pass 2^32, by computation.
 -- Assumes nothing.
 use mathlib.Core.Path.{refl}
+use mathlib.Core.List.{[]}
 use native.Mathlib.Omega.{arith}
 use lib.Dec.{lit<, lit≤}
 use lib.IntN.{pos}
@@ -9,19 +10,19 @@ use Rattle.clock.specs.Clock.{wrapped, centred, goesBack, waitOf, ageOf, verdic
 use Rattle.number.specs.Number.{distanceOf, nextOf}
 use Rattle.field.specs.Field.{fieldOf}
 use Rattle.message.specs.Layout.{dataTail}
-use Rattle.message.specs.Table.{tableOf, lists}
+use Rattle.message.specs.Table.{offsetEst, tableOf, lists}
 use Rattle.message.specs.Read.{laterStamp, checkOver, wholeOf, parsedOf}
 use Rattle.connection.specs.Connection.{_outside_to_, outOfRange, unsound, allZero}
 use Rattle.peer_faults.specs.Faults.{expectationOf, numberJudged, notAhead, beyondN, gap, wrongEcho, accepts, checkFailed, ageNumber, faultOf}
 use Rattle.what_follows.specs.Follows.{answ1Taken, estTaken, dataTaken, messageTaken, raised, openFollowsOf, followsOf, stepOf}
-use Rattle.calls.specs.Calls.{bad, closeRefusal, tickRefusal, receiveRefusal, beginRefusal, timed, expired, receiveOutcome, beginOutcome}
-use Rattle.true_age.specs.History.{newest, earlier, begun, received}
+use Rattle.calls.specs.Calls.{bad, closeRefusal, tickRefusal, receiveRefusal, beginRefusal, timed, expired, receiveOutcome, beginOutcome, initiator}
+use Rattle.true_age.specs.History.{newest, earlier, begun}
 use Rattle.worked_histories.specs.Worlds.{StaysInBand, Runs}
 use Rattle.worked_histories.specs.Histories.{room}
 use Rattle.worked_histories.specs.Initiator.{settings200}
-use Rattle.worked_histories.specs.Wrap.{ours, peers, answ1, est, freshMessage, world, offsetStart, afterEst, AcrossTheWrap}
+use Rattle.worked_histories.specs.Wrap.{ours, peers, answ1, est, freshMessage, world, ourStart, afterEst, AcrossTheWrap}
 use Rattle.worked_histories.proofs.Worlds.{at-least, at-most}
-use Rattle.worked_histories.proofs.Histories.{type-4-on, Reaches, goes-on, judges}
+use Rattle.worked_histories.proofs.Histories.{type-4-on, Reaches, received, goes-on, judges}
 
 ours-runs : Runs ours
 ours-runs t u h = omega arith
@@ -45,21 +46,21 @@ across-the-wrap =
       runs = runs;
       band = band;
       fresh = judges opens refl
-          (lit≤ tt) (lit≤ tt) (lit≤ tt) (dataTail 1) refl (lit< tt) refl (offsetStart ours-runs runs) (earlier (earlier newest)) refl refl;
+          (lit≤ tt) (lit≤ tt) (lit≤ tt) (dataTail 1) refl (lit< tt) refl (ourStart ours-runs runs) (earlier (earlier newest)) refl refl;
       late = judges (goes-on (afterEst ours-runs runs) opens refl 930 (lit≤ tt) freshMessage) refl
-          (lit≤ tt) (lit≤ tt) (lit≤ tt) (dataTail 1) refl (lit< tt) refl (offsetStart ours-runs runs) (earlier (earlier newest)) refl refl;
+          (lit≤ tt) (lit≤ tt) (lit≤ tt) (dataTail 1) refl (lit< tt) refl (ourStart ours-runs runs) (earlier (earlier newest)) refl refl;
     }
   where
-    opens : Reaches (world ours-runs runs) 0 0 settings200 (afterEst ours-runs runs)
+    opens : Reaches (world ours-runs runs) 0 initiator settings200 (afterEst ours-runs runs)
     opens =
         received
-        (received (begun allZero 7 50 0 room (λ _. lit≤ tt) refl) 80 (lit≤ tt) answ1 room
+        (received (begun allZero 7 50 0 [] room (λ _. lit≤ tt) refl) 80 (lit≤ tt) answ1 room
         (λ _ _. record {
           sent = 50;
           since = lit≤ tt;
           onward = lit≤ tt;
           stamped = refl;
-          reports = λ _. record { which = 0; ours = offsetStart ours-runs runs; of-ours = newest; onward = lit≤ tt; echoes = refl; reported = refl };
+          reports = λ _. record { which = 0; ours = ourStart ours-runs runs; of-ours = newest; onward = lit≤ tt; echoes = refl; reported = refl };
         }))
         110 (lit≤ tt) est room
-        (λ _ _. record { sent = 95; since = lit≤ tt; onward = lit≤ tt; stamped = refl; reports = type-4-on 4 (lit< tt) })
+        (λ _ _. record { sent = 95; since = lit≤ tt; onward = lit≤ tt; stamped = refl; reports = type-4-on offsetEst (lit< tt) })

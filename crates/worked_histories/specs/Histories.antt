@@ -12,7 +12,8 @@ use Rattle.connection.specs.declared.Connection.{Connection}
 use Rattle.connection.specs.Connection.{opened, allZero}
 use Rattle.what_follows.specs.declared.Outcome.{Outcome}
 use Rattle.peer_faults.specs.Faults.{messageAge}
-use Rattle.calls.specs.Calls.{beginOutcome, receiveOutcome, sendOutcome, tickOutcome}
+use Rattle.calls.specs.declared.Call.{Call}
+use Rattle.calls.specs.Calls.{given, outcomeOf}
 use Rattle.true_age.specs.Clocks.{World, InBand, countOf}
 use Rattle.true_age.specs.History.{Ours, withWritten, Written, Judged, History}
 use Rattle.true_age.specs.Claim.{transit, trueAge, AgeClaim}
@@ -28,21 +29,28 @@ module _ (W : World) where
     pub last : W .Moment
     pub c : Connection
 
+  -- after a call that came to o at a moment
   abbrev pub placeAfter : List (Ours W) → W .Moment → Outcome → Place
   placeAfter log u o = record { log = withWritten W u (o .reply) log; last = u; c = o .next }
 
-  -- each call gets our count as its now; begin is on a released slot
+  -- begin, on a released slot; each call gets our count as its now
   abbrev pub begin : ℕ → Settings → ℕ → ℕ → W .Moment → Place
-  begin role settings first period t = placeAfter [] t (beginOutcome allZero role settings first period (countOf (W .ours t)) room)
+  begin role settings first period t =
+      placeAfter [] t (outcomeOf (Call.Begin (given role settings first period)) allZero (countOf (W .ours t)) [] room)
 
+  -- any other call, on the record that the call before left; it is lent these bytes
+  abbrev pub calling : Call → Place → W .Moment → List ℕ → Place
+  calling call p u lent = placeAfter (p .log) u (outcomeOf call (p .c) (countOf (W .ours u)) lent room)
+
+  -- receive, send and tick, which is lent nothing:
   abbrev pub receive : Place → W .Moment → List ℕ → Place
-  receive p u message = placeAfter (p .log) u (receiveOutcome (p .c) (countOf (W .ours u)) message room)
+  receive p u message = calling Call.Receive p u message
 
-  abbrev pub send : Place → W .Moment → ℕ → Place
-  send p u size = placeAfter (p .log) u (sendOutcome (p .c) (countOf (W .ours u)) size room)
+  abbrev pub send : Place → W .Moment → List ℕ → Place
+  send p u lent = calling Call.Send p u lent
 
   abbrev pub tick : Place → W .Moment → Place
-  tick p u = placeAfter (p .log) u (tickOutcome (p .c) (countOf (W .ours u)))
+  tick p u = calling Call.Tick p u []
 
 -- what the messages of one history have in common: E, T_max, J and d, and T_max - E + J - d, which none handed up is truly older than
 pub record Common : Type 0 where
@@ -72,6 +80,7 @@ pub record Numbers : Type 0 where
   pub most : ℤ
 
 infix 1 truly_computed_answers_between_and_
+-- the same, in words
 abbrev pub truly_computed_answers_between_and_ : ℕ → ℤ → ℕ → ℤ → ℤ → Numbers
 truly true-age computed age answers k between least and most =
     record { true-age = true-age; age = age; answers = k; least = least; most = most }
@@ -82,7 +91,7 @@ numbersOf W k c sent taken h message =
     record {
       true-age = trueAge W sent taken;
       age = messageAge c (countOf (W .ours taken)) h;
-      answers = receiveOutcome c (countOf (W .ours taken)) message room .answer;
+      answers = outcomeOf Call.Receive c (countOf (W .ours taken)) message room .number;
       least = pos (trueAge W sent taken) +ℤ pos (k .e) -ℤ pos (k .j) +ℤ pos (k .d);
       most = pos (trueAge W sent taken) +ℤ pos (k .e) +ℤ pos (k .j) +ℤ pos (k .d);
     }

@@ -2,7 +2,9 @@
 use Prim.Native.Nat.{ℕ}
 use mathlib.Core.List.{List}
 use lib.IntN.{pos, negℤ}
+use lib.ListN.{replicate}
 use Rattle.connection.specs.declared.Settings.{Settings}
+use Rattle.calls.specs.Calls.{initiator}
 use Rattle.true_age.specs.Clocks.{World}
 use Rattle.worked_histories.specs.Worlds.{Runs, StaysInBand, responders, gaining, standing}
 use Rattle.worked_histories.specs.Histories.{Place, receive, send, tick, Common, Judges, truly_computed_answers_between_and_}
@@ -13,7 +15,7 @@ use Rattle.worked_histories.specs.SetUp.{toInitiator, atInitiator, initi
 abbrev pub peers : ℕ → ℕ
 peers = gaining 2000 2060 responders
 
--- T_max 40 and E 0, as in NUM-4
+-- T_max 40 and E 0, as in NUM-4:
 abbrev pub settings : Settings
 settings = record { n = 3; «t_max» = 40; e = 0; «t_start» = 100; «t_off» = 10; limit = 5 }
 
@@ -40,12 +42,13 @@ futureMessage = toInitiator 26 0x05 0x1E
 abbrev pub oldestMessage : List ℕ
 oldestMessage = toInitiator 27 0x05 0x82
 
+-- one call after another:
 module _ (runs : Runs peers) where
   abbrev pub world : World
   world = atInitiator peers runs
 
   abbrev pub afterSend : Place world
-  afterSend = send world (initiatorOpen peers runs settings) 1130 4
+  afterSend = send world (initiatorOpen peers runs settings) 1130 (replicate 4 0x55)
 
   abbrev pub afterFresh : Place world
   afterFresh = receive world afterSend 1172 freshMessage
@@ -62,21 +65,22 @@ module _ (runs : Runs peers) where
   abbrev pub afterFuture : Place world
   afterFuture = receive world afterTick 2139 futureMessage
 
+-- DEMAND-3: each of these messages meets the premises
 pub record InitiatorMeets : Type 0 where
   pub runs : Runs peers
   pub band : StaysInBand (world runs) 1000 60
   -- an age of T_max is delivered
-  pub fresh : Judges (world runs) 1000 1000 0 settings (afterSend runs) 1152 1172 freshMessage common
+  pub fresh : Judges (world runs) 1000 1000 initiator settings (afterSend runs) 1152 1172 freshMessage common
       (truly 20 computed pos 40 answers 0 between negℤ (pos 20) and pos 100)
-  pub gap : Judges (world runs) 1000 1000 0 settings (afterFresh runs) 1200 1215 gapMessage common
+  pub gap : Judges (world runs) 1000 1000 initiator settings (afterFresh runs) 1200 1215 gapMessage common
       (truly 15 computed pos 35 answers 204 between negℤ (pos 25) and pos 95)
-  pub late : Judges (world runs) 1000 1000 0 settings (afterGap runs) 1250 1271 lateMessage common
+  pub late : Judges (world runs) 1000 1000 initiator settings (afterGap runs) 1250 1271 lateMessage common
       (truly 21 computed pos 41 answers 205 between negℤ (pos 19) and pos 101)
   -- true age + E + d is J - 1, and the age is its least
-  pub future : Judges (world runs) 1000 1000 0 settings (afterTick runs) 2100 2139 futureMessage common
+  pub future : Judges (world runs) 1000 1000 initiator settings (afterTick runs) 2100 2139 futureMessage common
       (truly 39 computed negℤ (pos 1) answers 206 between negℤ (pos 1) and pos 119)
   -- the oldest that can be handed up: T_max - E + J - d
-  pub oldest : Judges (world runs) 1000 1000 0 settings (afterFuture runs) 2200 2280 oldestMessage common
+  pub oldest : Judges (world runs) 1000 1000 initiator settings (afterFuture runs) 2200 2280 oldestMessage common
       (truly 80 computed pos 40 answers 204 between pos 40 and pos 160)
 
 -- ---- the peer's clock stands still from 1120 to 1180: the difference rises from 850 to 910
@@ -84,6 +88,7 @@ pub record InitiatorMeets : Type 0 where
 abbrev pub slowPeers : ℕ → ℕ
 slowPeers = standing 1120 1180 responders
 
+-- T_max 200 and E 10:
 abbrev pub settings200 : Settings
 settings200 = record { n = 3; «t_max» = 200; e = 10; «t_start» = 100; «t_off» = 10; limit = 5 }
 
@@ -98,9 +103,11 @@ band0 = record { e = 10; t-max = 200; j = 0; d = 20; oldest = pos 170 }
 abbrev pub slowMessage : List ℕ
 slowMessage = toInitiator 22 0x01 0x22
 
+-- DEMAND-3: the upper bound is reached
 pub record LateReached : Type 0 where
   pub runs : Runs slowPeers
   pub band : StaysInBand (atInitiator slowPeers runs) 1000 60
   -- true age + E + J + d is T_max + 1, and the age is its most
-  pub late : Judges (atInitiator slowPeers runs) 1000 1000 0 settings200 (initiatorOpen slowPeers runs settings200) 1200 1311 slowMessage band60
+  pub late : Judges (atInitiator slowPeers runs) 1000 1000 initiator settings200 (initiatorOpen slowPeers runs settings200) 1200 1311
+      slowMessage band60
       (truly 111 computed pos 201 answers 205 between pos 81 and pos 201)

@@ -1,22 +1,45 @@
--- The premises of demand 3 are missed one at a time: the others are met, and what is claimed of the message fails. The set-up is the initiator's each time,
--- with E 10 and T_max 200. Here the bound, the band, the sending, the stamp, the arrival and the now; in CallsMissed the record, the set-up's beginning, the
--- taking and the message reported.
+-- The premises of demand 3 are missed one at a time: the others are met, and what is claimed of the message fails.
+-- The set-up is the initiator's each time, with E 10 and T_max 200. Here the bound, the band, the sending, the stamp, the arrival and the
+-- now; in CallsMissed the record, the set-up's beginning, the taking and the message reported.
 use Prim.Native.Nat.{ℕ, _+_, _^_, _<_}
 use mathlib.Core.Path.{_≡_}
 use mathlib.Core.List.{List, [], _∷_}
 use lib.IntN.{pos, negℤ}
 use Rattle.message.specs.Read.{messageHeaderOf}
+use Rattle.calls.specs.Calls.{initiator}
 use Rattle.true_age.specs.Clocks.{World, InBand, countOf}
 use Rattle.true_age.specs.Claim.{trueAge}
 use Rattle.worked_histories.specs.Worlds.{Runs, StaysInBand, arrivals, worldOf, initiators, responders, standing, standingBefore}
-use Rattle.worked_histories.specs.Histories.{Place, begin, receive, tick, Common, commonOf, Numbers, numbersOf, Judges, Claimed, truly_computed_answers_between_and_}
-use Rattle.worked_histories.specs.SetUp.{answ1, est, toInitiator, atInitiator, offsetStart, initiatorOpen}
+use Rattle.worked_histories.specs.Histories.{
+  Place,
+  begin,
+  receive,
+  tick,
+  Common,
+  commonOf,
+  Numbers,
+  numbersOf,
+  Judges,
+  Claimed,
+  truly_computed_answers_between_and_,
+}
+use Rattle.worked_histories.specs.SetUp.{answ1, est, toInitiator, atInitiator, ourStart, initiatorOpen}
 use Rattle.worked_histories.specs.Initiator.{slowPeers, settings200, band60, band0, slowMessage}
-use Rattle.worked_histories.specs.CallsMissed.{driftingPeers, driftedMessage, asReported, openAsReported, reportedMessage, AnotherRecord, BegunAfter, TakenBeforeSent, ReportOfAnother}
+use Rattle.worked_histories.specs.CallsMissed.{
+  driftingPeers,
+  driftedMessage,
+  asReported,
+  openAsReported,
+  reportedMessage,
+  AnotherRecord,
+  BegunAfter,
+  TakenBeforeSent,
+  ReportOfAnother,
+}
 
 -- ---- true age + E + J + d is under 2^31
 
--- the difference has risen by the whole band; ticks keep our clock from going back
+-- the difference has risen by the whole band; ticks keep our clock from going back:
 module _ (runs : Runs slowPeers) where
   abbrev pub afterTick : Place (atInitiator slowPeers runs)
   afterTick = tick (atInitiator slowPeers runs) (initiatorOpen slowPeers runs settings200) 2000000000
@@ -27,14 +50,16 @@ module _ (runs : Runs slowPeers) where
 abbrev pub atNumbers : Numbers
 atNumbers = truly 2147483558 computed negℤ (pos 2147483648) answers 206 between pos 2147483528 and pos 2147483648
 
--- at 2^31 the age is -2^31, and the answer 206
+-- DEMAND-3: at 2^31 the age is -2^31, and the answer 206
 pub record AtTheBound : Type 0 where
   pub runs : Runs slowPeers
   pub band : StaysInBand (atInitiator slowPeers runs) 1000 60
-  pub message : Judges (atInitiator slowPeers runs) 1000 1000 0 settings200 (afterTick runs) 1200 2147484758 slowMessage band60 atNumbers
+  pub message : Judges (atInitiator slowPeers runs) 1000 1000 initiator settings200 (afterTick runs) 1200 2147484758
+      slowMessage band60 atNumbers
   pub bound-missed : atNumbers .true-age + band60 .e + band60 .j + band60 .d ≡ 2 ^ 31
   pub claim-fails : ¬ (Claimed settings200 (afterTick runs .c) band60 atNumbers)
 
+-- the age has gone once around
 abbrev pub pastNumbers : Numbers
 pastNumbers = truly 4294967236 computed pos 30 answers 0 between pos 4294967206 and pos 4294967326
 
@@ -42,7 +67,8 @@ pastNumbers = truly 4294967236 computed pos 30 answers 0 between pos 4294967206 
 pub record PastTheBound : Type 0 where
   pub runs : Runs slowPeers
   pub band : StaysInBand (atInitiator slowPeers runs) 1000 60
-  pub message : Judges (atInitiator slowPeers runs) 1000 1000 0 settings200 (afterTicks runs) 1200 4294968436 slowMessage band60 pastNumbers
+  pub message : Judges (atInitiator slowPeers runs) 1000 1000 initiator settings200 (afterTicks runs) 1200 4294968436
+      slowMessage band60 pastNumbers
   pub bound-missed : 2 ^ 31 < pastNumbers .true-age + band60 .e + band60 .j + band60 .d
   pub claim-fails : ¬ (Claimed settings200 (afterTicks runs .c) band60 pastNumbers)
 
@@ -55,8 +81,8 @@ driftedNumbers = truly 1000 computed pos 30 answers 0 between pos 970 and pos 10
 pub record OutsideTheBand : Type 0 where
   pub runs : Runs driftingPeers
   pub band-missed : (j : ℕ) → j < 1000 → ¬ (InBand (atInitiator driftingPeers runs) 1000 4000 j)
-  pub message : Judges (atInitiator driftingPeers runs) 1000 1000 0 settings200 (initiatorOpen driftingPeers runs settings200) 3000 4000
-      driftedMessage band60 driftedNumbers
+  pub message : Judges (atInitiator driftingPeers runs) 1000 1000 initiator settings200
+      (initiatorOpen driftingPeers runs settings200) 3000 4000 driftedMessage band60 driftedNumbers
   pub claim-fails : ¬ (Claimed settings200 (initiatorOpen driftingPeers runs settings200 .c) band60 driftedNumbers)
 
 -- ---- the others are missed with J 0: none handed up is truly older than 170
@@ -72,6 +98,7 @@ earlierMessage =
     ∷ 0x00 ∷ 0x00 ∷ 0x00 ∷ 0x00
     ∷ 0x55 ∷ []
 
+-- with J 0
 abbrev pub earlierNumbers : Numbers
 earlierNumbers = truly 1120 computed pos 150 answers 0 between pos 1150 and pos 1150
 
@@ -80,7 +107,7 @@ pub record SentBefore : Type 0 where
   pub runs : Runs standingBefore
   pub band : StaysInBand (atInitiator standingBefore runs) 1000 0
   -- all else is as supposed of a message sent since 0
-  pub message : Judges (atInitiator standingBefore runs) 1000 0 0 settings200 (initiatorOpen standingBefore runs settings200) 0 1120
+  pub message : Judges (atInitiator standingBefore runs) 1000 0 initiator settings200 (initiatorOpen standingBefore runs settings200) 0 1120
       earlierMessage band0 earlierNumbers
   pub since-missed : ¬ (atInitiator standingBefore runs .early 1000 0)
   pub claim-fails : ¬ (Claimed settings200 (initiatorOpen standingBefore runs settings200 .c) band0 earlierNumbers)
@@ -91,6 +118,7 @@ pub record SentBefore : Type 0 where
 abbrev pub falselyStamped : List ℕ
 falselyStamped = toInitiator 22 0x04 0x7E
 
+-- as if sent then, and as it was sent:
 abbrev pub stampedNumbers : Numbers
 stampedNumbers = truly 30 computed pos 60 answers 0 between pos 60 and pos 60
 
@@ -102,14 +130,14 @@ pub record FalseStamp : Type 0 where
   pub runs : Runs responders
   pub band : StaysInBand (atInitiator responders runs) 1000 0
   -- all is as supposed of a message sent at 2000
-  pub message : Judges (atInitiator responders runs) 1000 1000 0 settings200 (initiatorOpen responders runs settings200) 2000 2030
+  pub message : Judges (atInitiator responders runs) 1000 1000 initiator settings200 (initiatorOpen responders runs settings200) 2000 2030
       falselyStamped band0 stampedNumbers
   -- it was sent at 1120, and but for the stamp that is as supposed too
   pub since : atInitiator responders runs .early 1000 1120
   pub onward : atInitiator responders runs .early 1120 2030
   pub stamp-missed : ¬ (messageHeaderOf falselyStamped .stamp ≡ countOf (responders 1120))
-  pub numbers-are : numbersOf (atInitiator responders runs) band0 (initiatorOpen responders runs settings200 .c) 1120 2030 (messageHeaderOf falselyStamped) falselyStamped
-      ≡ sentNumbers
+  pub numbers-are : numbersOf (atInitiator responders runs) band0 (initiatorOpen responders runs settings200 .c) 1120 2030
+      (messageHeaderOf falselyStamped) falselyStamped ≡ sentNumbers
   pub claim-fails : ¬ (Claimed settings200 (initiatorOpen responders runs settings200 .c) band0 sentNumbers)
 
 -- ---- reported arrivals are true
@@ -123,12 +151,14 @@ falseAnsw1 =
     ∷ 0x00 ∷ 0x00 ∷ 0x00 ∷ 0x96
     ∷ 0x00 ∷ 0x00 ∷ 0x00 ∷ 0x32 ∷ []
 
+-- in the world as reported:
 abbrev pub reportedBand0 : Common
 reportedBand0 = record { e = 10; t-max = 200; j = 0; d = 0; oldest = pos 190 }
 
 abbrev pub reportedNumbers : Numbers
 reportedNumbers = truly 190 computed pos 200 answers 0 between pos 200 and pos 200
 
+-- truly
 abbrev pub trueNumbers : Numbers
 trueNumbers = truly 190 computed pos 200 answers 0 between pos 220 and pos 220
 
@@ -137,10 +167,12 @@ pub record FalseArrival : Type 0 where
   pub runs : Runs responders
   pub band : StaysInBand (asReported 1000 runs) 1000 0
   -- all is as supposed in the world as reported, which differs from the true one in this arrival alone
-  pub message : Judges (asReported 1000 runs) 1000 1000 0 settings200 (openAsReported 1000 falseAnsw1 runs) 1200 1390 reportedMessage reportedBand0 reportedNumbers
+  pub message : Judges (asReported 1000 runs) 1000 1000 initiator settings200 (openAsReported 1000 falseAnsw1 runs) 1200 1390
+      reportedMessage reportedBand0 reportedNumbers
   pub arrival-missed : ¬ (messageHeaderOf falseAnsw1 .arrival ≡ countOf (responders (atInitiator responders runs .arrived 0)))
-  pub common-is : commonOf (atInitiator responders runs) settings200 0 (offsetStart responders runs) ≡ band0
-  pub numbers-are : numbersOf (atInitiator responders runs) band0 (openAsReported 1000 falseAnsw1 runs .c) 1200 1390 (messageHeaderOf reportedMessage) reportedMessage ≡ trueNumbers
+  pub common-is : commonOf (atInitiator responders runs) settings200 0 (ourStart responders runs) ≡ band0
+  pub numbers-are : numbersOf (atInitiator responders runs) band0 (openAsReported 1000 falseAnsw1 runs .c) 1200 1390
+      (messageHeaderOf reportedMessage) reportedMessage ≡ trueNumbers
   pub claim-fails : ¬ (Claimed settings200 (openAsReported 1000 falseAnsw1 runs .c) band0 trueNumbers)
 
 -- ---- each call gets our count as its now
@@ -150,13 +182,14 @@ abbrev pub lagging : ℕ → ℕ
 lagging = standing 1150 1200 initiators
 
 module _ (now-runs : Runs lagging) (runs : Runs responders) where
-  -- the world as the calls get it
+  -- the world as the calls get it, and the set-up in it:
   abbrev pub asCalled : World
   asCalled = worldOf lagging responders (arrivals 1020 1090 1120) now-runs runs
 
   abbrev pub openAsCalled : Place asCalled
-  openAsCalled = receive asCalled (receive asCalled (begin asCalled 0 settings200 7 50 1000) 1080 answ1) 1110 est
+  openAsCalled = receive asCalled (receive asCalled (begin asCalled initiator settings200 7 50 1000) 1080 answ1) 1110 est
 
+-- in that world
 abbrev pub calledBand50 : Common
 calledBand50 = record { e = 10; t-max = 200; j = 50; d = 20; oldest = pos 220 }
 
@@ -164,6 +197,7 @@ calledBand50 = record { e = 10; t-max = 200; j = 50; d = 20; oldest = pos 220 }
 abbrev pub calledMessage : List ℕ
 calledMessage = toInitiator 22 0x01 0x0E
 
+-- in that world, and by our count:
 abbrev pub calledNumbers : Numbers
 calledNumbers = truly 170 computed pos 200 answers 0 between pos 150 and pos 250
 
@@ -177,7 +211,8 @@ pub record FalseNow : Type 0 where
   pub band : StaysInBand (atInitiator responders runs) 1000 0
   -- all is as supposed in the world as the calls get it, with J 50
   pub called-band : StaysInBand (asCalled now-runs runs) 1000 50
-  pub message : Judges (asCalled now-runs runs) 1000 1000 0 settings200 (openAsCalled now-runs runs) 1120 1340 calledMessage calledBand50 calledNumbers
+  pub message : Judges (asCalled now-runs runs) 1000 1000 initiator settings200 (openAsCalled now-runs runs) 1120 1340
+      calledMessage calledBand50 calledNumbers
   pub now-missed : ¬ (countOf (asCalled now-runs runs .ours 1340) ≡ countOf (atInitiator responders runs .ours 1340))
   pub true-age-is : trueAge (atInitiator responders runs) 1120 1340 ≡ ourNumbers .true-age
   pub claim-fails : ¬ (Claimed settings200 (openAsCalled now-runs runs .c) band0 ourNumbers)

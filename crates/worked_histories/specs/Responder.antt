@@ -1,8 +1,10 @@
--- The premises of demand 3 are met at a responder, with every answer that goes by the age, and its bounds are reached. Its begin is earlier than the set-up.
+-- The premises of demand 3 are met at a responder, with every answer that goes by the age, and its bounds are reached.
+-- Its begin is earlier than the set-up.
 use Prim.Native.Nat.{ℕ}
 use mathlib.Core.List.{List}
 use lib.IntN.{pos, negℤ}
 use Rattle.connection.specs.declared.Settings.{Settings}
+use Rattle.calls.specs.Calls.{responder}
 use Rattle.true_age.specs.Clocks.{World}
 use Rattle.worked_histories.specs.Worlds.{Runs, StaysInBand, initiators, responders, gaining, standing}
 use Rattle.worked_histories.specs.Histories.{Place, receive, Common, Judges, truly_computed_answers_between_and_}
@@ -13,6 +15,7 @@ use Rattle.worked_histories.specs.Initiator.{settings200}
 abbrev pub peers : ℕ → ℕ
 peers = gaining 2000 2060 initiators
 
+-- T_max 50 and E 5:
 abbrev pub settings : Settings
 settings = record { n = 3; «t_max» = 50; e = 5; «t_start» = 100; «t_off» = 10; limit = 5 }
 
@@ -39,6 +42,7 @@ futureMessage = toResponder 14 0x08 0x70
 abbrev pub oldestMessage : List ℕ
 oldestMessage = toResponder 15 0x08 0xD4
 
+-- one call after another:
 module _ (ours-runs : Runs responders) (runs : Runs peers) where
   abbrev pub world : World
   world = atResponder peers ours-runs runs
@@ -58,22 +62,23 @@ module _ (ours-runs : Runs responders) (runs : Runs peers) where
   abbrev pub afterFuture : Place world
   afterFuture = receive world afterLate 2124 futureMessage
 
+-- DEMAND-3: each of these messages meets the premises
 pub record ResponderMeets : Type 0 where
   pub ours-runs : Runs responders
   pub runs : Runs peers
   pub band : StaysInBand (world ours-runs runs) 1000 60
   -- an age of T_max is delivered
-  pub fresh : Judges (world ours-runs runs) 1000 1000 1 settings (afterEnd ours-runs runs) 1200 1215 freshMessage common
+  pub fresh : Judges (world ours-runs runs) 1000 1000 responder settings (afterEnd ours-runs runs) 1200 1215 freshMessage common
       (truly 15 computed pos 50 answers 0 between negℤ (pos 10) and pos 110)
-  pub gap : Judges (world ours-runs runs) 1000 1000 1 settings (afterFresh ours-runs runs) 1250 1260 gapMessage common
+  pub gap : Judges (world ours-runs runs) 1000 1000 responder settings (afterFresh ours-runs runs) 1250 1260 gapMessage common
       (truly 10 computed pos 45 answers 204 between negℤ (pos 15) and pos 105)
-  pub late : Judges (world ours-runs runs) 1000 1000 1 settings (afterGap ours-runs runs) 1300 1316 lateMessage common
+  pub late : Judges (world ours-runs runs) 1000 1000 responder settings (afterGap ours-runs runs) 1300 1316 lateMessage common
       (truly 16 computed pos 51 answers 205 between negℤ (pos 9) and pos 111)
   -- true age + E + d is J - 1
-  pub future : Judges (world ours-runs runs) 1000 1000 1 settings (afterLate ours-runs runs) 2100 2124 futureMessage common
+  pub future : Judges (world ours-runs runs) 1000 1000 responder settings (afterLate ours-runs runs) 2100 2124 futureMessage common
       (truly 24 computed negℤ (pos 1) answers 206 between negℤ (pos 1) and pos 119)
   -- the oldest that can be handed up: T_max - E + J - d
-  pub oldest : Judges (world ours-runs runs) 1000 1000 1 settings (afterFuture ours-runs runs) 2200 2275 oldestMessage common
+  pub oldest : Judges (world ours-runs runs) 1000 1000 responder settings (afterFuture ours-runs runs) 2200 2275 oldestMessage common
       (truly 75 computed pos 50 answers 204 between pos 50 and pos 170)
 
 -- ---- the peer's clock stands still from 1145 to 1205: the difference rises from -850 to -790
@@ -88,10 +93,12 @@ slowBand60 = record { e = 10; t-max = 200; j = 60; d = 30; oldest = pos 220 }
 abbrev pub slowMessage : List ℕ
 slowMessage = toResponder 10 0x04 0xD8
 
+-- DEMAND-3: the upper bound is reached
 pub record ResponderLateReached : Type 0 where
   pub ours-runs : Runs responders
   pub runs : Runs slowPeers
   pub band : StaysInBand (atResponder slowPeers ours-runs runs) 1000 60
   -- true age + E + J + d is T_max + 1, and the age is its most
-  pub late : Judges (atResponder slowPeers ours-runs runs) 1000 1000 1 settings200 (responderOpen slowPeers ours-runs runs settings200) 1300 1401 slowMessage slowBand60
+  pub late : Judges (atResponder slowPeers ours-runs runs) 1000 1000 responder settings200
+      (responderOpen slowPeers ours-runs runs settings200) 1300 1401 slowMessage slowBand60
       (truly 101 computed pos 201 answers 205 between pos 81 and pos 201)

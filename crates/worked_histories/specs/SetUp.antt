@@ -2,8 +2,9 @@
 -- By SETUP-STAMP the initiator's I3 is 1080, and the responder's R1 200.
 use Prim.Native.Nat.{ℕ}
 use mathlib.Core.List.{List, [], _∷_}
+use Rattle.message.specs.Table.{offsetAnsw1}
 use Rattle.connection.specs.declared.Settings.{Settings}
-use Rattle.calls.specs.Calls.{startHeader}
+use Rattle.calls.specs.Calls.{startHeader, initiator, responder}
 use Rattle.true_age.specs.Clocks.{World, countOf}
 use Rattle.true_age.specs.History.{Ours}
 use Rattle.worked_histories.specs.Worlds.{Runs, arrivals, worldOf, initiators, responders}
@@ -78,18 +79,20 @@ toResponder number stamp3 stamp4 =
     ∷ 0x00 ∷ 0x00 ∷ 0x04 ∷ 0x65
     ∷ 0x55 ∷ []
 
--- ---- an initiator's set-up, with any peer's clock: OffsetStart arrives 20 ticks later, OffsetAnsw2 10, OffsetEnd 10
+-- ---- an initiator's set-up, with any peer's clock
 module _ (peers : ℕ → ℕ) (runs : Runs peers) where
+  -- OffsetStart arrives 20 ticks later, OffsetAnsw2 10, OffsetEnd 10
   abbrev pub atInitiator : World
   atInitiator = worldOf initiators peers (arrivals 1020 1090 1120) (λ t u h. h) runs
 
   -- the first message that we write
-  abbrev pub offsetStart : Ours atInitiator
-  offsetStart = record { at = 1000; header = startHeader 7 (countOf 1000) }
+  abbrev pub ourStart : Ours atInitiator
+  ourStart = record { at = 1000; header = startHeader 7 (countOf 1000) }
 
+  -- from begin to open:
   module _ (settings : Settings) where
     abbrev pub initiatorAwaits2 : Place atInitiator
-    initiatorAwaits2 = begin atInitiator 0 settings 7 50 1000
+    initiatorAwaits2 = begin atInitiator initiator settings 7 50 1000
 
     abbrev pub initiatorAwaits4 : Place atInitiator
     initiatorAwaits4 = receive atInitiator initiatorAwaits2 1080 answ1
@@ -97,22 +100,24 @@ module _ (peers : ℕ → ℕ) (runs : Runs peers) where
     abbrev pub initiatorOpen : Place atInitiator
     initiatorOpen = receive atInitiator initiatorAwaits4 1110 est
 
--- ---- a responder's set-up, with any peer's clock: OffsetAnsw1 arrives 30 ticks later, OffsetEst 15
+-- ---- a responder's set-up, with any peer's clock
 module _ (peers : ℕ → ℕ) (ours-runs : Runs responders) (runs : Runs peers) where
+  -- OffsetAnsw1 arrives 30 ticks later, OffsetEst 15
   abbrev pub atResponder : World
   atResponder = worldOf responders peers (arrivals 1080 1125 1125) ours-runs runs
 
   -- the first message that we write
-  abbrev pub offsetAnsw1 : Ours atResponder
-  offsetAnsw1 =
+  abbrev pub ourAnsw1 : Ours atResponder
+  ourAnsw1 =
       record {
         at = 1050;
-        header = record { kind = 2; number = 30; stamp = countOf 200; «last_peer_stamp» = countOf 1000; arrival = countOf 200 };
+        header = record { kind = offsetAnsw1; number = 30; stamp = countOf 200; «last_peer_stamp» = countOf 1000; arrival = countOf 200 };
       }
 
+  -- from begin to open:
   module _ (settings : Settings) where
     abbrev pub responderAwaits1 : Place atResponder
-    responderAwaits1 = begin atResponder 1 settings 30 50 900
+    responderAwaits1 = begin atResponder responder settings 30 50 900
 
     abbrev pub responderAwaits3 : Place atResponder
     responderAwaits3 = receive atResponder responderAwaits1 1050 start

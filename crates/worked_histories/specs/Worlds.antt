@@ -16,6 +16,7 @@ arrivals first second third n =
     when eqb n 1 answer second else
     third
 
+-- its moments are numbers
 abbrev pub worldOf : (ours peers arrived : ℕ → ℕ) → Runs ours → Runs peers → World
 worldOf ours peers arrived ours-runs peers-runs =
     record {
@@ -34,7 +35,7 @@ worldOf ours peers arrived ours-runs peers-runs =
 abbrev pub StaysInBand : (W : World) → W .Moment → ℕ → Type 0
 StaysInBand W began j = (judged : W .Moment) → InBand W began judged j
 
--- The true offset is NUM-1's, 850: the initiator's clock reads the moment itself, the responder's 850 less, unless a world says otherwise
+-- The true offset is NUM-1's, 850: the initiator's clock reads the moment itself and the responder's 850 less, or as a world says:
 abbrev pub initiators : ℕ → ℕ
 initiators t = t
 

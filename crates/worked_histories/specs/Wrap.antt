@@ -2,7 +2,7 @@
 use Prim.Native.Nat.{ℕ, _+_}
 use mathlib.Core.List.{List, [], _∷_}
 use lib.IntN.{pos}
-use Rattle.calls.specs.Calls.{startHeader}
+use Rattle.calls.specs.Calls.{startHeader, initiator}
 use Rattle.true_age.specs.Clocks.{World, countOf}
 use Rattle.true_age.specs.History.{Ours}
 use Rattle.worked_histories.specs.Worlds.{Runs, StaysInBand, arrivals, worldOf}
@@ -37,8 +37,8 @@ est =
     ∷ 0x01 ∷ 0x00 ∷ 0x00 ∷ 0x03 ∷ 0x48 ∷ []
 
 -- an application message of one byte: last peer stamp 60, our OffsetEnd, arrived at 2^32 - 780
-abbrev pub application : ℕ → ℕ → ℕ → ℕ → ℕ → List ℕ
-application number stamp1 stamp2 stamp3 stamp4 =
+abbrev pub dataMessage : ℕ → ℕ → ℕ → ℕ → ℕ → List ℕ
+dataMessage number stamp1 stamp2 stamp3 stamp4 =
     0x06 ∷ 0x00 ∷ number
     ∷ stamp1 ∷ stamp2 ∷ stamp3 ∷ stamp4
     ∷ 0x00 ∷ 0x00 ∷ 0x00 ∷ 0x3C
@@ -47,23 +47,24 @@ application number stamp1 stamp2 stamp3 stamp4 =
 
 -- stamp 2^32 - 10, sent at 890
 abbrev pub freshMessage : List ℕ
-freshMessage = application 22 0xFF 0xFF 0xFF 0xF6
+freshMessage = dataMessage 22 0xFF 0xFF 0xFF 0xF6
 
 -- stamp 100, sent at 1000
 abbrev pub lateMessage : List ℕ
-lateMessage = application 23 0x00 0x00 0x00 0x64
+lateMessage = dataMessage 23 0x00 0x00 0x00 0x64
 
--- OffsetStart arrives 20 ticks later, OffsetAnsw2 10, OffsetEnd 10
 module _ (ours-runs : Runs ours) (runs : Runs peers) where
+  -- OffsetStart arrives 20 ticks later, OffsetAnsw2 10, OffsetEnd 10
   abbrev pub world : World
   world = worldOf ours peers (arrivals 20 90 120) ours-runs runs
 
   -- the first message that we write
-  abbrev pub offsetStart : Ours world
-  offsetStart = record { at = 0; header = startHeader 7 (countOf 4294967246) }
+  abbrev pub ourStart : Ours world
+  ourStart = record { at = 0; header = startHeader 7 (countOf 4294967246) }
 
+  -- one call after another:
   abbrev pub awaits4 : Place world
-  awaits4 = receive world (begin world 0 settings200 7 50 0) 80 answ1
+  awaits4 = receive world (begin world initiator settings200 7 50 0) 80 answ1
 
   abbrev pub afterEst : Place world
   afterEst = receive world awaits4 110 est
@@ -71,13 +72,14 @@ module _ (ours-runs : Runs ours) (runs : Runs peers) where
   abbrev pub afterFresh : Place world
   afterFresh = receive world afterEst 930 freshMessage
 
+-- DEMAND-3: each of these messages meets the premises
 pub record AcrossTheWrap : Type 0 where
   pub ours-runs : Runs ours
   pub runs : Runs peers
   pub band : StaysInBand (world ours-runs runs) 0 0
   -- stamp 4294967286, now 880: with J 0 the age is its least and its most
-  pub fresh : Judges (world ours-runs runs) 0 0 0 settings200 (afterEst ours-runs runs) 890 930 freshMessage band0
+  pub fresh : Judges (world ours-runs runs) 0 0 initiator settings200 (afterEst ours-runs runs) 890 930 freshMessage band0
       (truly 40 computed pos 70 answers 0 between pos 70 and pos 70)
   -- stamp 100, now 1130
-  pub late : Judges (world ours-runs runs) 0 0 0 settings200 (afterFresh ours-runs runs) 1000 1180 lateMessage band0
+  pub late : Judges (world ours-runs runs) 0 0 initiator settings200 (afterFresh ours-runs runs) 1000 1180 lateMessage band0
       (truly 180 computed pos 210 answers 205 between pos 210 and pos 210)

@@ -84,6 +84,7 @@ begins s = beginOutcome allZero (given initiator s 7 50) (count 1000) startSize
 unfoldable pub getsAnsw1 : Settings → List ℕ → Outcome
 getsAnsw1 s message = receiveOutcome (begins s .next) (count 1080) message estSize
 
+-- OffsetEst arrives at 1120
 unfoldable pub getsEst : Settings → List ℕ → List ℕ → Outcome
 getsEst s before message = receiveOutcome (getsAnsw1 s before .next) (count 1120) message estSize
 
@@ -104,6 +105,7 @@ getsStart s = receiveOutcome (beginOutcome allZero (given responder s 9 50) (cou
 unfoldable pub getsAnsw2 : Settings → Outcome
 getsAnsw2 s = receiveOutcome (getsStart s .next) (count 260) answ2 estSize
 
+-- OffsetEnd arrives at 300
 unfoldable pub getsEnd : Settings → Outcome
 getsEnd s = receiveOutcome (getsAnsw2 s .next) (count 300) end estSize
 
@@ -132,9 +134,11 @@ earlyEst =
     ++ (0x01 ∷ 0x00 ∷ 0x00 ∷ 0x03 ∷ 0x4A ∷ [])
     ++ (0x01 ∷ 0x00 ∷ 0x00 ∷ 0x03 ∷ 0x40 ∷ [])
 
+-- its OffsetAnsw1 arrives at 812
 unfoldable pub earlyGetsAnsw1 : Settings → Outcome
 earlyGetsAnsw1 s = receiveOutcome (beginOutcome allZero (given initiator s 7 50) (count 800) startSize .next) (count 812) earlyAnsw1 estSize
 
+-- its OffsetEst arrives at 820
 unfoldable pub earlyGetsEst : Settings → Outcome
 earlyGetsEst s = receiveOutcome (earlyGetsAnsw1 s .next) (count 820) earlyEst estSize
 
@@ -169,6 +173,7 @@ infix 70 _gives_
 pub data Row : Type 1 where
   _gives_ : {A : Type 0} → A → A → Row
 
+-- the two are the same
 abbrev pub Holds : Row → Type 0
 Holds (a gives b) = a ≡ b
 

@@ -1,5 +1,5 @@
-// The worked numbers (NUM-1 to NUM-16) that concern clocks, numbers and fields, run and printed: stdout has what must come. The starred ones are proved in
-// the table of specs/Worked, and there alone (OPEN-4).
+// The worked numbers (NUM-1 to NUM-16) that concern clocks, numbers and fields, run and printed: stdout has what must come.
+// The starred ones are proved in the table of specs/Worked, and there alone (OPEN-4).
 ghost use mathlib.Core.Path.{_≡_};
 ghost use lib.IntN.{pos, _-ℤ_};
 ghost use Rattle.clock.specs.Clock.{centred, ageOf};
