@@ -34,10 +34,11 @@ module _ (normal : List ℕ) (normalAt : ℕ) (redundant : List ℕ) (redundantA
   abbrev pub step : Taken
   step = takenOf normal normalAt redundant redundantAt state
 
-  -- LINK-NAMED: the bytes and the place of the link that an answer names
+  -- LINK-NAMED: the bytes of the link that an answer names
   abbrev pub linkBytes : Taken → List ℕ
   linkBytes taken = ofLink (taken .normal) normal redundant
 
+  -- LINK-NAMED: the place in it
   abbrev pub linkPlace : Taken → ℕ
   linkPlace taken = ofLink (taken .normal) normalAt redundantAt
 

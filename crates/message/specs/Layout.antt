@@ -52,19 +52,23 @@ tail period min max check n = record { period = period; min = min; max = max; ch
 abbrev pub noOffset : Offset
 noOffset = record { 0 = pos 0 }
 
--- MSG-FIELDS: the tails of the types, what they do not have being 0
+-- MSG-1, MSG-2: the period; MSG-FIELDS: here and below, what the type does not have is 0
 abbrev pub periodTail : ℕ → Tail
 periodTail period = tail period noOffset noOffset 0 0
 
+-- MSG-3: nothing
 abbrev pub emptyTail : Tail
 emptyTail = tail 0 noOffset noOffset 0 0
 
+-- MSG-4: min and max
 abbrev pub offsetsTail : Offset → Offset → Tail
 offsetsTail min max = tail 0 min max 0 0
 
+-- MSG-5: the check byte
 abbrev pub checkTail : ℕ → Tail
 checkTail check = tail 0 noOffset noOffset check 0
 
+-- MSG-6: how many bytes of application data
 abbrev pub dataTail : ℕ → Tail
 dataTail n = tail 0 noOffset noOffset 0 n
 

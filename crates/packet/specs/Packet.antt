@@ -38,10 +38,11 @@ checkAt s at = checkOf (take checkedBytes (drop at s))
 abbrev pub userDataAt : List ℕ → ℕ → List ℕ
 userDataAt s at = take (packetHeaderAt s at .length - leastLength) (drop (at + packetHeaderSize) s)
 
--- PKT-FLAG: the flags of the two links
+-- PKT-FLAG: the normal link's flag
 abbrev pub normalFlag : ℕ
 normalFlag = 1
 
+-- PKT-FLAG: the redundant link's flag
 abbrev pub redundantFlag : ℕ
 redundantFlag = 0
 

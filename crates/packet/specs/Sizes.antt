@@ -30,9 +30,10 @@ packetSize length = length + lengthSize
 abbrev pub mostPacket : ℕ
 mostPacket = packetSize mostLength
 
--- PKT-CHECK: the check is over so many bytes, which are so many fields
+-- PKT-CHECK: the bytes that the check is over
 abbrev pub checkedBytes : ℕ
 checkedBytes = 8
 
+-- PKT-CHECK: the fields that these bytes are
 abbrev pub checkedFields : ℕ
 checkedFields = 6

@@ -75,39 +75,48 @@ rows =
     ∷ (lifeOfActive ∷ 1 ∷ 0 ∷ 1 ∷ 1 ∷ 0 ∷ 0 ∷ 0 ∷ 0 ∷ 0 ∷ [])  -- TYPE-255
     ∷ []
 
--- PKT-TABLE: the cells of a row; its service classes are A and D, its links the normal one and the redundant one
+-- PKT-TABLE: the cells of a row. The type that it is of
 abbrev pub kindOf : List ℕ → ℕ
 kindOf row = getD row 0 0
 
+-- PKT-TABLE: the service classes, A and D
 unfoldable pub classesOf : List ℕ → List ℕ
 classesOf row = getD row 1 0 ∷ getD row 2 0 ∷ []
 
+-- PKT-TABLE: the links, the normal one and the redundant one
 unfoldable pub linksOf : List ℕ → List ℕ
 linksOf row = getD row 3 0 ∷ getD row 4 0 ∷ []
 
+-- AU-1, AU-2: the least user data
 unfoldable pub leastOf : List ℕ → ℕ
 leastOf row = getD row 5 0
 
+-- PKT-TABLE: whether there may be user data
 abbrev pub hasUserDataOf : List ℕ → ℕ
 hasUserDataOf row = getD row 6 0
 
+-- TYPE-1, TYPE-2: whether the number is 0
 abbrev pub numberedZeroOf : List ℕ → ℕ
 numberedZeroOf row = getD row 7 0
 
+-- AU-1: where the class stands, 0 where there is none
 abbrev pub classAtOf : List ℕ → ℕ
 classAtOf row = getD row 8 0
 
+-- AU-1: the class that class D asks for
 abbrev pub classOf : List ℕ → ℕ
 classOf row = getD row 9 0
 
--- PKT-TABLE: the row of a type; of a type that the table does not have, a row of zeros
+-- PKT-TABLE: the row of a type that the table does not have
 abbrev pub noRow : List ℕ
 noRow = 0 ∷ 0 ∷ 0 ∷ 0 ∷ 0 ∷ 0 ∷ 0 ∷ 0 ∷ 0 ∷ 0 ∷ []
 
+-- PKT-TABLE: the first row of the type in a table
 abbrev pub rowIn : ℕ → List (List ℕ) → List ℕ
 rowIn kind [] = noRow
 rowIn kind (row ∷ rest) = when (eqb (kindOf row) kind) answer row else rowIn kind rest
 
+-- PKT-TABLE: the row of a type
 abbrev pub typeRow : ℕ → List ℕ
 typeRow kind = rowIn kind rows
 
