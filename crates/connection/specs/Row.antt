@@ -31,6 +31,7 @@ settingsFrom fields =
 abbrev pub rowWidths : List ℕ
 rowWidths = 1 ∷ (settingsWidths ++ (2 ∷ 4 ∷ 2 ∷ 4 ∷ 4 ∷ 4 ∷ 4 ∷ 4 ∷ 1 ∷ 4 ∷ []))
 
+-- a count stands as it is
 abbrev pub countFrom : ℕ → Count
 countFrom n = record { 0 = n }
 

@@ -9,8 +9,8 @@ ghost use Rattle.recording.specs.Printed.{heading, mostLine};
 ghost use Rattle.recording.specs.Progress.{Lies};
 ghost use Rattle.recording.specs.Whole.{BothToppedUp, TurnOf, PrintedToTheEnd, PrintedWhole};
 use links::State;
+use packet::MOST_PACKET;
 use recording::Advanced;
-use recording::MOST_BYTES;
 use recording::MOST_LINE;
 use recording::Progress;
 use text::Chosen;
@@ -21,6 +21,12 @@ const MOST_WORD: usize = 16;
 
 // More turns than any run takes.
 const MOST_TURNS: u64 = 0xFFFF_FFFF_FFFF_FFFE;
+
+// The open files of the two links.
+struct Files {
+    normal: i32,
+    redundant: i32,
+}
 
 // The windows after they are topped up, and whether a file could not be read.
 struct Windows {
@@ -49,10 +55,9 @@ impl Turned {
 
 // Tops both windows up; the second one only where the first file could be read.
 fn both_topped_up(
-    normal_fd: i32,
+    files: Files,
     normal_name: &[u8],
     normal: &mut [u8],
-    redundant_fd: i32,
     redundant_name: &[u8],
     redundant: &mut [u8],
     p: Progress,
@@ -63,7 +68,7 @@ fn both_topped_up(
         (now (normal .exit)) (now (redundant .exit)) (r .normal) (r .redundant)
         × Within (r .normal .window) (length (now (normal .entry))) × Within (r .redundant .window) (length (now (redundant .entry)))) ⌝ }
 {
-    let first = window::topped_up(normal_fd, normal_name, normal, p.normal, MOST_BYTES);
+    let first = window::topped_up(files.normal, normal_name, normal, p.normal, MOST_PACKET);
     let unchanged = p.redundant;
     if first.failed {
         return Windows {
@@ -73,11 +78,11 @@ fn both_topped_up(
         };
     }
     let second = window::topped_up(
-        redundant_fd,
+        files.redundant,
         redundant_name,
         redundant,
         unchanged,
-        MOST_BYTES,
+        MOST_PACKET,
     );
     Windows {
         normal: first,
@@ -112,10 +117,9 @@ fn put_last(out: &mut [u8], at: usize, count: u64, state: State)
 
 // One turn: room for a line, the windows topped up, and a step with its line.
 fn turn(
-    normal_fd: i32,
+    files: Files,
     normal_name: &[u8],
     normal: &mut [u8],
-    redundant_fd: i32,
     redundant_name: &[u8],
     redundant: &mut [u8],
     out: &mut [u8],
@@ -135,15 +139,7 @@ fn turn(
     if place.failed {
         return Turned::no_further(p, place.at);
     }
-    let windows = both_topped_up(
-        normal_fd,
-        normal_name,
-        normal,
-        redundant_fd,
-        redundant_name,
-        redundant,
-        p,
-    );
+    let windows = both_topped_up(files, normal_name, normal, redundant_name, redundant, p);
     if windows.failed {
         return Turned::no_further(p, place.at);
     }
@@ -159,10 +155,9 @@ fn turn(
 // Turns until a step answers 301 or 308, then the last line. A proved loop has to end, and nothing says that a file does, so the loop
 // counts its turns down, from a number that no run uses up.
 fn cut_links(
-    normal_fd: i32,
+    files: Files,
     normal_name: &[u8],
     normal: &mut [u8],
-    redundant_fd: i32,
     redundant_name: &[u8],
     redundant: &mut [u8],
     out: &mut [u8],
@@ -170,18 +165,16 @@ fn cut_links(
     state: State,
 )
     requires { ⌜ (mostPacket ≤ length (now normal)) × (mostPacket ≤ length (now redundant)) ⌝ }
-    requires { ⌜ (place ≤ length (now out)) × (mostLine ≤ length (now out)) ⌝ }
-    requires { ⌜ take place (now out) ≡ heading ⌝ }
+    requires { ⌜ (place ≤ length (now out)) × (mostLine ≤ length (now out)) × (take place (now out) ≡ heading) ⌝ }
 {
     let mut at = place;
     let mut p = Progress::start(state);
     let mut turns = MOST_TURNS;
     while turns > 0 {
         let turned = turn(
-            normal_fd,
+            files,
             normal_name,
             normal,
-            redundant_fd,
             redundant_name,
             redundant,
             out,
@@ -204,10 +197,9 @@ fn cut_links(
 
 // The heading, then the turns.
 fn print_all(
-    normal_fd: i32,
+    files: Files,
     normal_name: &[u8],
     normal: &mut [u8],
-    redundant_fd: i32,
     redundant_name: &[u8],
     redundant: &mut [u8],
     out: &mut [u8],
@@ -218,10 +210,9 @@ fn print_all(
 {
     let at = recording::put_heading(out, 0);
     cut_links(
-        normal_fd,
+        files,
         normal_name,
         normal,
-        redundant_fd,
         redundant_name,
         redundant,
         out,
@@ -231,21 +222,14 @@ fn print_all(
 }
 
 // The buffers of two open files.
-fn cut_files(
-    normal_fd: i32,
-    normal_name: &[u8],
-    redundant_fd: i32,
-    redundant_name: &[u8],
-    state: State,
-) {
+fn cut_files(files: Files, normal_name: &[u8], redundant_name: &[u8], state: State) {
     let mut normal = io::large_buffer();
     let mut redundant = io::large_buffer();
     let mut out = io::large_buffer();
     print_all(
-        normal_fd,
+        files,
         normal_name,
         &mut normal,
-        redundant_fd,
         redundant_name,
         &mut redundant,
         &mut out,
@@ -267,10 +251,13 @@ fn cut_named(state: State) {
     if redundant_fd < 0 {
         return;
     }
+    let files = Files {
+        normal: normal_fd,
+        redundant: redundant_fd,
+    };
     cut_files(
-        normal_fd,
+        files,
         &normal_name[..normal_size],
-        redundant_fd,
         &redundant_name[..redundant_size],
         state,
     );

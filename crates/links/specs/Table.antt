@@ -1,5 +1,5 @@
--- The table of a step, its rows in LINK-ORDER: LINK-308, LINK-301, LINK-302, LINK-303, LINK-304 (`linkRows`), LINK-305, LINK-309,
--- LINK-306, LINK-307, LINK-0 (`classDRows`), each with what follows (specs/Taken).
+-- The table of a step, its rows in LINK-ORDER, each with what follows (specs/Taken).
+-- LINK-308, LINK-301, LINK-302, LINK-303, LINK-304 are `linkRows`; LINK-305, LINK-309, LINK-306, LINK-307, LINK-0 are `classDRows`.
 -- Assumes nothing.
 use Prim.Native.Nat.{ℕ, _+_}
 use mathlib.Core.Bool.{Bool, true, false, not, cond, _||_, _&&_}

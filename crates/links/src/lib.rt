@@ -1,5 +1,4 @@
-// Taking one packet from two links: the table LINK-308 .. LINK-0 over two lent slices, a place in each, and a state that goes in
-// and comes back by value.
+// Taking one packet from two links: the table LINK-308 .. LINK-0 over two lent slices, a place in each, and a state by value.
 ghost use mathlib.Core.Path.{_≡_};
 ghost use mathlib.Core.Bool.{true, false};
 ghost use mathlib.Core.List.{List};

@@ -7,6 +7,7 @@ use Rattle.text.specs.Ascii.{ascii}
 use Rattle.text.specs.Line.{numberWord, mostNumber}
 use Rattle.links.specs.declared.Taken.{Taken}
 
+-- the first line
 abbrev pub heading : List ℕ
 heading = ascii "link answer used type number data\n"
 
@@ -28,7 +29,7 @@ lineOf taken =
 abbrev pub endOf : ℕ → List ℕ
 endOf count = ascii "end" ++ numberWord count ++ ascii "\n"
 
--- the most bytes of a link's name; of three numbers and the end of the line; and of a line: a link's name, two numbers, and those
+-- the most bytes of a link's name; of three numbers and the end of the line; and of a line, a link's name, two numbers, and those:
 abbrev pub mostLinkName : ℕ
 mostLinkName = 9
 

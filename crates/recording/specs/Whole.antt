@@ -30,7 +30,7 @@ reachOf normal redundant p = record { normal = normal; redundant = redundant; st
 
 module _ (normalFile : List ℕ) (normalPlace : ℕ) (redundantFile : List ℕ) (redundantPlace : ℕ) (normal redundant : List ℕ)
     (p : Progress) where
-  -- the step over the whole files, and the reach after it
+  -- the step over the whole files, and the reach after it:
   abbrev pub whole : Taken
   whole = stepFrom normalFile redundantFile (reachOf normalPlace redundantPlace p)
 

@@ -18,9 +18,6 @@ const MOST_LINK_NAME: usize = 9;
 
 pub const MOST_LINE: usize = MOST_LINK_NAME + 5 * text::MOST_NUMBER + 1;
 
-// The most bytes of a packet, which are the most that one step looks at: a window with fewer is low.
-pub const MOST_BYTES: usize = packet::HEADER_SIZE + packet::MOST_DATA;
-
 // The windows of the two links, the state of the steps, how many packets were handed up, and whether the last step answered 301 or 308.
 pub struct Progress {
     pub normal: Window,

@@ -6,6 +6,7 @@ use Prim.Native.String.{String}
 use Prim.Native.String as string
 use mathlib.Core.List.{List, [], _∷_}
 
+-- a code for each character
 abbrev pub ascii : String → List ℕ
 ascii string.[] = []
 ascii (string._∷_ c text) = code c ∷ ascii text

@@ -11,14 +11,14 @@ use Rattle.text.specs.Ascii.{ascii}
 use Rattle.text.specs.Text.{mostDigits, digit, decimalOf}
 use Rattle.clock.specs.declared.Offset.{Offset}
 
--- a number, and the most bytes of it
+-- a number, and the most bytes of it:
 abbrev pub numberWord : ℕ → List ℕ
 numberWord n = ascii " " ++ decimalOf n
 
 abbrev pub mostNumber : ℕ
 mostNumber = 1 + mostDigits
 
--- an offset: its size, after a minus where it is negative; and the most bytes of it
+-- an offset, its size, after a minus where it is negative; and the most bytes of it:
 abbrev pub offsetWord : Offset → List ℕ
 offsetWord offset = cond (ltZ (offset .0) (pos 0)) (ascii " -") (ascii " ") ++ decimalOf (natAbs (offset .0))
 
@@ -30,7 +30,7 @@ abbrev pub digitsOf : List ℕ → List ℕ
 digitsOf [] = []
 digitsOf (b ∷ s) = digit (b / 16) ∷ digit (b % 16) ∷ digitsOf s
 
--- bytes; a dash for none; and the most bytes of the word for so many
+-- bytes; a dash for none; and the most bytes of the word for so many:
 abbrev pub bytesWord : List ℕ → List ℕ
 bytesWord [] = ascii " -"
 bytesWord (b ∷ s) = ascii " " ++ digitsOf (b ∷ s)
@@ -48,7 +48,7 @@ allBefore [] = true
 allBefore (b ∷ s) = eqb b byteBefore && allBefore s
 
 -- the bytes written at the start of a lent buffer, and where another byte of it changed the word for that; and the most bytes of these for
--- a buffer of this size
+-- a buffer of this size:
 abbrev pub writtenWords : List ℕ → ℕ → List ℕ
 writtenWords lent written = bytesWord (take written lent) ++ cond (allBefore (drop written lent)) [] (ascii " changed")
 

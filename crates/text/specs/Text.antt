@@ -45,6 +45,7 @@ decimalIn (suc most) n =
 abbrev pub mostDigits : ℕ
 mostDigits = 20
 
+-- a number in decimal
 abbrev pub decimalOf : ℕ → List ℕ
 decimalOf n = decimalIn mostDigits n
 

@@ -43,6 +43,7 @@ usedOf used w = record { from = w .from + used; to = w .to; ended = w .ended }
 abbrev pub failedBy : Read → Bool
 failedBy r = ltZ (r .got) (pos 0)
 
+-- neither above 0 nor below
 abbrev pub isNought : ℤ → Bool
 isNought (pos k) = eqb k 0
 isNought (negsuc k) = false

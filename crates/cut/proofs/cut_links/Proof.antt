@@ -36,10 +36,10 @@ loop-holds c =
       refl,
       refl,
       (none-within _ _ (ap (λ (p : Progress). p .normal) first), none-within _ _ (ap (λ (p : Progress). p .redundant) first)),
-      start .pre .1 .0 .0,
+      start .pre .1 .0,
       omega (arith, ap (λ (p : Progress). p .«handed_up») first),
       ap (λ (p : Progress). p .last) first,
-      cutting-first (a .state) (a .normal .now) (a .redundant .now) first (start .pre .1 .1),
+      cutting-first (a .state) (a .normal .now) (a .redundant .now) first (start .pre .1 .1 .1),
     )
 
 turn-requires : tie.Need-turn-requires Inv-loop μ-loop
@@ -50,7 +50,7 @@ turn-requires c κs =
       ((lies .0 .0, omega (arith, lies .0 .1, inv .0)), (lies .1 .0, omega (arith, lies .1 .1, inv .1))),
       (
         (omega (arith, pre .0 .0, inv .0), omega (arith, pre .0 .1, inv .1)),
-        ((omega (arith, inv .4, inv .2), omega (arith, inv .2, pre .1 .0 .1)), omega (arith, inv .5)),
+        ((omega (arith, inv .4, inv .2), omega (arith, inv .2, pre .1 .1 .0)), omega (arith, inv .5)),
       ),
     )
 
@@ -80,7 +80,7 @@ put-last-requires c κs =
     let carried =
     turn-cuts (start .args .state) (at .normal) (at .redundant) (at .p) (at .out) (at .at) normal redundant out after (made .0)
     (turned .kept .1 .1 .0) (turned .kept .1 .1 .1 .1 .1 .0) (made .2) (inv .6) (inv .7) in (
-      (omega (arith, made .2, turned .kept .1 .1 .1 .1 .1 .1 .0), omega (arith, turned .kept .1 .1 .1 .1 .1 .1 .0, inv .2, start .pre .1 .0 .1)),
+      (omega (arith, made .2, turned .kept .1 .1 .1 .1 .1 .1 .0), omega (arith, turned .kept .1 .1 .1 .1 .1 .1 .0, inv .2, start .pre .1 .1 .0)),
       printed-to-the-end (start .args .state) normal redundant (after .progress) out (after .next) carried (c .before .if2 .taken),
     )
 

@@ -15,7 +15,8 @@ cut-links-requires c κs =
     let within = heading .ensures .place in (
       start .pre .0,
       (
-        (omega (arith, within, heading .kept .0, start .pre .1), omega (arith, heading .kept .0, start .pre .1)),
+        omega (arith, within, heading .kept .0, start .pre .1),
+        omega (arith, heading .kept .0, start .pre .1),
         front-put (heading .ensures) (omega (arith, within, start .pre .1)),
       ),
     )
