@@ -1,0 +1,4 @@
+pub mod Turns
+pub mod Reaches
+pub mod Agree
+pub mod Whole

@@ -1,0 +1,3 @@
+-- Machines that take turns on the bytes of a file.
+pub mod Machine
+pub mod Pieces
