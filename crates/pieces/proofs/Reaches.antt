@@ -90,8 +90,13 @@ module _ (m : Machine) (laws : Lawful m) where
       record {
         lies = (omega (arith, laws .uses-no-more (x .state) s, size, kept .lies .0), kept .lies .1);
         fits =
-            omega (arith, length-append (x .text) (t .text), laws .prints-no-more (x .state) s, kept .fits,
-            has-room m (m .stopped (x .state)) (x .window) (room - length (x .text)) goes);
+            omega (
+              arith,
+              length-append (x .text) (t .text),
+              laws .prints-no-more (x .state) s,
+              kept .fits,
+              has-room m (m .stopped (x .state)) (x .window) (room - length (x .text)) goes,
+            );
         stays = kept .stays;
       }
 

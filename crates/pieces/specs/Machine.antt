@@ -7,8 +7,8 @@ use mathlib.Core.List.{List, [], _++_}
 use lib.ListN.{length, drop}
 use Rattle.rules.specs.Rows.{when_answer_else_}
 
--- A turn: what it prints, how many bytes of the file it uses up, the state after it, and what it leaves in the buffer that is lent to it, by
--- what stood there.
+-- A turn: what it prints, how many bytes of the file it uses up, the state after it, and what it leaves in the buffer that is lent to it,
+-- by what stood there.
 pub record Turn (State : Type 0) : Type 0 where
   pub text : List ℕ
   pub used : ℕ

@@ -1,5 +1,4 @@
--- A machine on a file that is read a piece at a time: as many turns as the bytes at hand and the room for text allow, and the promise that
--- however a file is cut into pieces, what is printed for them is what is printed for the whole file.
+-- A machine on a file that is read a piece at a time, and the promise that its pieces print what is printed for the whole file.
 -- Assumes nothing.
 use Prim.Native.Nat.{ℕ, zero, suc, _-_}
 use mathlib.Core.Path.{_≡_}
@@ -26,6 +25,7 @@ pub record Reach (State : Type 0) : Type 0 where
 unfoldable pub waits : Machine → Bool → Window → ℕ → Bool
 waits m stopped w room = stopped || lowOf (m .mostSeen) w || ltb room (m .mostText)
 
+-- the same of a reach
 abbrev pub waitsAt : (m : Machine) → ℕ → Reach (m .State) → Bool
 waitsAt m room x = waits m (m .stopped (x .state)) (x .window) (room - length (x .text))
 
@@ -33,6 +33,7 @@ waitsAt m room x = waits m (m .stopped (x .state)) (x .window) (room - length (x
 abbrev pub reachedBy : (m : Machine) → Reach (m .State) → Turn (m .State) → Reach (m .State)
 reachedBy m x t = record { state = t .next; window = usedOf (t .used) (x .window); text = x .text ++ t .text; lent = t .lent (x .lent) }
 
+-- the machine's own
 abbrev pub turned : (m : Machine) → List ℕ → Reach (m .State) → Reach (m .State)
 turned m buffer x = reachedBy m x (m .turn (x .state) (unread buffer (x .window)))
 

@@ -4,18 +4,17 @@ ghost use mathlib.Core.Bool.{true, false};
 ghost use Prim.Native.Nat.{_+_, _^_, _≤_, _<_};
 ghost use lib.ListN.{length};
 ghost use Rattle.window.specs.Window.{Within};
+ghost use Rattle.pieces.specs.Pieces.{PieceOf, PrintedWhole};
 ghost use Rattle.trace.specs.Record.{mostRecord};
 ghost use Rattle.trace.specs.Call.{room};
-ghost use Rattle.trace.specs.Printed.{mostLine};
-ghost use Rattle.trace.specs.Whole.{PieceOf, PrintedWhole};
+ghost use Rattle.replay_lines.specs.Printed.{mostLine};
+ghost use Rattle.replay_lines.specs.Replay.{replay};
 ghost use Rattle.replay.specs.Sizes.{largeBuffer};
 use libc::STDIN_FILENO;
-use trace::Advanced;
-use trace::Progress;
+use replay_lines::Advanced;
+use replay_lines::Progress;
+use trace::ROOM;
 use window::Window;
-
-// TRACE-6: the bytes of the out buffer that each call is lent.
-const ROOM: usize = 1000;
 
 // More turns than any run takes.
 const MOST_TURNS: u64 = 0x8000_0000_0000;
@@ -56,12 +55,11 @@ fn piece(
     requires { ⌜ Within w (length (now buffer)) × (mostRecord ≤ length (now buffer)) × (length (now buffer) ≤ largeBuffer) ⌝ }
     requires { ⌜ (length (now lent) ≡ room) × (at ≤ length (now out)) × (mostLine ≤ length (now out))
         × (p .count + largeBuffer < 2 ^ 64) ⌝ }
-    ensures { λ r. ⌜ (r .failed ≡ false → PieceOf (now (buffer .entry)) w p (now (lent .entry)) (now (out .entry)) at
-        (now (buffer .exit)) (now (lent .exit)) (now (out .exit)) (r .advanced)
-        × Within (r .advanced .window) (length (now (buffer .entry))) × (r .advanced .next ≤ length (now (out .entry)))
+    ensures { λ r. ⌜ (r .failed ≡ false → PieceOf replay (now (buffer .entry)) w p (now (lent .entry)) (now (out .entry)) at
+        (now (buffer .exit)) (now (lent .exit)) (now (out .exit)) (r .advanced .progress) (r .advanced .window) (r .advanced .next)
         × (r .advanced .progress .count ≤ p .count + largeBuffer)) ⌝ }
 {
-    let place = text::make_room(out, at, trace::MOST_LINE);
+    let place = text::make_room(out, at, replay_lines::MOST_LINE);
     if place.failed {
         return Replayed::no_further(p, w, place.at);
     }
@@ -71,7 +69,7 @@ fn piece(
         return Replayed::no_further(p, window, place.at);
     }
     Replayed {
-        advanced: trace::advance(buffer, lent, out, place.at, p, window),
+        advanced: replay_lines::advance(buffer, lent, out, place.at, p, window),
         failed: false,
     }
 }
@@ -82,7 +80,7 @@ fn piece(
 // is seen in their few lines, and by the tests.
 fn finish(out: &[u8], at: usize)
     requires { ⌜ at ≤ length (now out) ⌝ }
-    requires { ⌜ PrintedWhole (now out) at ⌝ }
+    requires { ⌜ PrintedWhole replay (now out) at ⌝ }
 {
     text::written(out, at);
 }
@@ -93,7 +91,7 @@ fn replay_all(fd: i32, name: &[u8], buffer: &mut [u8], lent: &mut [u8], out: &mu
     requires { ⌜ (mostRecord ≤ length (now buffer)) × (length (now buffer) ≤ largeBuffer) ⌝ }
     requires { ⌜ (length (now lent) ≡ room) × (mostLine ≤ length (now out)) ⌝ }
 {
-    let mut at = trace::put_heading(out, 0);
+    let mut at = replay_lines::put_heading(out, 0);
     let mut progress = Progress::start();
     let mut window = Window::empty();
     let mut turns = MOST_TURNS;

@@ -13,17 +13,13 @@ use lib.Seq.{take-append-le, drop-append-le}
 use Rattle.rules.specs.Rows.{when_answer_else_}
 use Rattle.field.specs.Field.{fieldOf}
 use Rattle.field.proofs.Field.{field-same}
-use Rattle.trace.specs.Record.{fieldsAt, fieldsSize, sizeOf, bytesIn, mostLength, mostRecord, wrongMark, unknownKind, lengthOver, cutRecord, recordOf}
+use Rattle.trace.specs.Record.{fieldsAt, fieldsSize, sizeOf, bytesIn, mostLength, mostRecord, wrongMark, unknownKind, lengthOver, badFields, cutRecord, recordOf}
 use Rattle.trace.specs.declared.Record.{Record}
 use Rattle.trace.specs.declared.Next.the-variants.{End, Bad, Whole}
 
--- the faults of a record's fields
-abbrev faults : Record → Bool
-faults r = wrongMark r || unknownKind r || lengthOver r
-
 -- all faults of the record that stands first
 abbrev isBad : List ℕ → Record → Bool
-isBad s r = faults r || cutRecord s r
+isBad s r = badFields r || cutRecord s r
 
 either : (a b : Bool) → b ≡ true → (a || b) ≡ true
 either true b e = refl
@@ -51,14 +47,14 @@ module _ (s : List ℕ) (some : length s ≡ 0 → ⊥) where
   unfolding recordOf
   by-fault b e = rw (ne-eqb (length s) 0 some, e)
 
-  pub fields-bad : faults r ≡ true → recordOf s ≡ Bad
+  pub fields-bad : badFields r ≡ true → recordOf s ≡ Bad
   fields-bad e = by-fault true (ap (λ (b : Bool). b || cutRecord s r) e)
 
   pub cut-bad : length s < sizeOf r → recordOf s ≡ Bad
   unfolding cutRecord
-  cut-bad h = by-fault true (either (faults r) (cutRecord s r) (lt-ltb (length s) (sizeOf r) h))
+  cut-bad h = by-fault true (either (badFields r) (cutRecord s r) (lt-ltb (length s) (sizeOf r) h))
 
-  pub is-whole : faults r ≡ false → sizeOf r ≤ length s → recordOf s ≡ Whole r
+  pub is-whole : badFields r ≡ false → sizeOf r ≤ length s → recordOf s ≡ Whole r
   unfolding cutRecord
   is-whole e h = by-fault false (ap (λ (b : Bool). b || cutRecord s r) e ∙ le-ltb (length s) (sizeOf r) h)
 
@@ -73,7 +69,7 @@ whole-fits s r = by (eqb (length s) 0) (isBad s (fieldsAt s)) refl
     by false false b e =
         let same : fieldsAt s ≡ r = cc in
         let f = fieldsAt s in
-        let fits = ltb-false (length s) (sizeOf f) (not-either (faults f) (ltb (length s) (sizeOf f)) b) in
+        let fits = ltb-false (length s) (sizeOf f) (not-either (badFields f) (ltb (length s) (sizeOf f)) b) in
         rw (← same) fits
 
 -- bytes that follow are not looked at

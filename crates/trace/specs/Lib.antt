@@ -1,7 +1,2 @@
 pub mod Record
 pub mod Call
-pub mod Printed
-pub mod Replay
-pub mod Pieces
-pub mod Whole
-pub mod Samples

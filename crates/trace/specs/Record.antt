@@ -30,7 +30,7 @@ named fields = record {
 abbrev pub fieldsAt : List ℕ → Record
 fieldsAt s = named (fieldsOf widths s 0)
 
--- how many bytes its fields take, and the whole record
+-- TRACE-1: how many bytes its fields take, and the whole record:
 abbrev pub fieldsSize : ℕ
 fieldsSize = widthOf widths
 
@@ -41,32 +41,56 @@ sizeOf r = fieldsSize + r .length
 abbrev pub bytesIn : List ℕ → Record → List ℕ
 bytesIn s r = take (r .length) (drop fieldsSize s)
 
--- the most bytes of a record: its length is at most 1,000
+-- TRACE-10: the most bytes behind a record's fields, and the most of a whole record:
 abbrev pub mostLength : ℕ
 mostLength = 1000
 
 abbrev pub mostRecord : ℕ
 mostRecord = fieldsSize + mostLength
 
+-- TRACE-1: the mark
+abbrev pub mark : ℕ
+mark = 0x5232
+
+-- TRACE-2: the kinds, by their numbers:
+abbrev pub beginKind : ℕ
+beginKind = 1
+
+abbrev pub receiveKind : ℕ
+receiveKind = 2
+
+abbrev pub sendKind : ℕ
+sendKind = 3
+
+abbrev pub tickKind : ℕ
+tickKind = 4
+
+abbrev pub closeKind : ℕ
+closeKind = 5
+
 -- TRACE-8
 unfoldable pub wrongMark : Record → Bool
-wrongMark r = not (eqb (r .mark) 0x5232)
+wrongMark r = not (eqb (r .mark) mark)
 
 -- TRACE-9
 unfoldable pub unknownKind : Record → Bool
-unknownKind r = (r .kind) outside 1 to 5
+unknownKind r = (r .kind) outside beginKind to closeKind
 
 -- TRACE-10
 unfoldable pub lengthOver : Record → Bool
 lengthOver r = ltb mostLength (r .length)
 
+-- TRACE-8, TRACE-9, TRACE-10: its fields alone show that it is bad
+abbrev pub badFields : Record → Bool
+badFields r = wrongMark r || unknownKind r || lengthOver r
+
 -- TRACE-11: the end of the trace cuts it
 unfoldable pub cutRecord : List ℕ → Record → Bool
 cutRecord s r = ltb (length s) (sizeOf r)
 
--- what stands first in the bytes that are left of a trace
+-- TRACE-8 to TRACE-11: what stands first in the bytes that are left of a trace
 unfoldable pub recordOf : List ℕ → Next
 recordOf s =
     when eqb (length s) 0 answer End else
-    when wrongMark (fieldsAt s) || unknownKind (fieldsAt s) || lengthOver (fieldsAt s) || cutRecord s (fieldsAt s) answer Bad else
+    when badFields (fieldsAt s) || cutRecord s (fieldsAt s) answer Bad else
     Whole (fieldsAt s)

@@ -3,7 +3,8 @@ use Prim.Native.Nat.{ℕ}
 use mathlib.Core.Path.{sym, subst, _∙_}
 use mathlib.Core.Bool.{false≢true}
 use native.Mathlib.Omega.{arith}
-use Rattle.trace.specs.Pieces.{AdvancedTo}
+use Rattle.pieces.specs.Pieces.{AdvancedTo}
+use Rattle.replay_lines.specs.Replay.{replay}
 use borrow.Author.Needs.{needs}
 use Rattle.replay.proofs.piece.Statement.{statement}
 use Rattle.replay.proofs.piece.Tie as tie
@@ -54,19 +55,18 @@ returns-3 c =
     let place = c .before .before .before .before .before .before .before .before .before .before .before .before .before .before .before .make-room in
     let topped = c .before .before .before .before .before .before .before .before .before .before .before .before .topped-up in
     let advance = c .before .before .before .before .advance in
-    let done = advance .ensures in
+    let after = advance .result in
     let lies = topped .ensures .1 .0 in λ _. (
       record {
         topped = topped .result;
         up = topped .ensures .0;
         advanced =
             subst (λ (n : ℕ).
-            AdvancedTo (topped .last .1 .1 .0) (a .p) (topped .result .window) (a .lent .now) (a .out .now) n (advance .last .1 .0) (advance .last .1 .1 .0) (advance .result))
-            (place .ensures .0) done;
+            AdvancedTo replay (topped .last .1 .1 .0) (a .p) (topped .result .window) (a .lent .now) (a .out .now) n (advance .last .1 .0) (advance .last .1 .1 .0)
+            (after .progress) (after .window) (after .next))
+            (place .ensures .0) (advance .ensures .0);
       },
-      (done .lies .0, omega (arith, done .lies .1, topped .kept .1 .1 .0)),
-      done .within,
-      omega (arith, done .counted, lies .0, lies .1, start .pre .0 .2),
+      omega (arith, advance .ensures .1, lies .0, lies .1, start .pre .0 .2),
     )
 
 pub piece-spec : {M : Type 1} → statement M

@@ -6,9 +6,11 @@ use native.Mathlib.Omega.{arith}
 use lib.ListN.{length}
 use Rattle.window.specs.Window.{Within}
 use Rattle.window.proofs.Empty.{none-within}
-use Rattle.trace.specs.Whole.{Replaying}
-use Rattle.trace.specs.declared.Progress.{Progress}
-use Rattle.trace.proofs.Whole.{replaying-first, piece-replays, printed-whole}
+use Rattle.pieces.specs.Pieces.{Running}
+use Rattle.pieces.proofs.Whole.{running-first, piece-runs, piece-lies, piece-within, printed-whole}
+use Rattle.replay_lines.specs.Replay.{replay}
+use Rattle.replay_lines.specs.declared.Progress.{Progress}
+use Rattle.replay_lines.proofs.Laws.{replay-laws}
 use Rattle.replay.specs.Sizes.{largeBuffer}
 use Rattle.replay.proofs.replay_all.Statement.{statement}
 use Rattle.replay.proofs.replay_all.Tie as tie
@@ -17,7 +19,7 @@ abbrev Inv-loop : tie.InvT-loop
 Inv-loop fd name buffer₀ lent₀ out₀ at₀ progress₀ window₀ turns₀ buffer lent out at progress window turns =
     (length buffer ≡ length buffer₀) × (length lent ≡ length lent₀) × (length out ≡ length out₀)
     × Within window (length buffer₀) × (at ≤ length out₀) × (progress .count + largeBuffer * turns < 2 ^ 64)
-    × Replaying buffer window progress out at
+    × Running replay buffer window progress out at
 
 abbrev μ-loop : tie.MeasureT-loop
 μ-loop fd name buffer₀ lent₀ out₀ at₀ progress₀ window₀ turns₀ buffer lent out at progress window turns = turns
@@ -41,7 +43,7 @@ loop-holds c =
       none-within _ _ (c .empty .ensures),
       omega (arith, heading .ensures .place, heading .kept .0, start .pre .1 .1),
       omega (arith, ap (λ (p : Progress). p .count) (c .before .start .ensures)),
-      replaying-first (start .args .buffer .now) (c .empty .ensures) (c .before .start .ensures) (heading .ensures) (omega (arith, heading .ensures .place, start .pre .1 .1)),
+      running-first replay replay-laws (start .args .buffer .now) (c .empty .ensures) (c .before .start .ensures) (heading .ensures) (omega (arith, heading .ensures .place, start .pre .1 .1)),
     )
 
 piece-requires : tie.Need-piece-requires Inv-loop μ-loop
@@ -76,12 +78,17 @@ finish-requires c κs =
     let at = c .before .before .before .before .before .before .before .before .before .before .before .before .before .before .before .before .before .loop in
     let done = c .before .before .before .before .before .before .before .before .before .before .before .before .piece in
     let made = done .ensures (c .before .before .before .before .before .if1 .left) in
+    let after = done .result .advanced in
+    let lies : Within (at .window) (length (at .buffer)) = (at .inv .3 .0, omega (arith, at .inv .0, at .inv .3 .1)) in
+    let within : at .at ≤ length (at .out) = omega (arith, at .inv .2, at .inv .4) in
     let carried =
-    piece-replays (at .buffer) (at .window) (at .progress) (at .lent) (at .out) (at .at)
-    (done .last .1 .1 .0) (done .last .1 .1 .1 .0) (done .last .1 .1 .1 .1 .0) (done .result .advanced) (done .kept .1 .1 .0) (made .0) (at .inv .6) in
-    let after = done .result .advanced in (
-      omega (arith, made .2, done .kept .1 .1 .1 .1 .0),
-      printed-whole (done .last .1 .1 .0) (after .window) (after .progress) (done .last .1 .1 .1 .1 .0) (after .next) carried (c .before .if2 .taken),
+    piece-runs replay replay-laws (at .buffer) (at .window) (at .progress) (at .lent) (at .out) (at .at)
+    (done .last .1 .1 .0) (done .last .1 .1 .1 .0) (done .last .1 .1 .1 .1 .0) (after .progress) (after .window) (after .next) (done .kept .1 .1 .0) (made .0) lies within (at .inv .6) in
+    let next =
+    piece-within replay replay-laws (at .buffer) (at .window) (at .progress) (at .lent) (at .out) (at .at)
+    (done .last .1 .1 .0) (done .last .1 .1 .1 .0) (done .last .1 .1 .1 .1 .0) (after .progress) (after .window) (after .next) (done .kept .1 .1 .0) (made .0) lies within in (
+      omega (arith, next, done .kept .1 .1 .1 .1 .0),
+      printed-whole replay replay-laws (done .last .1 .1 .0) (after .window) (after .progress) (done .last .1 .1 .1 .1 .0) (after .next) carried (c .before .if2 .taken),
     )
 
 same-length-4 : tie.Need-same-length-4 Inv-loop μ-loop
@@ -108,16 +115,24 @@ loop-again c =
     let done = c .before .before .before .before .before .before .before .before .before .before .before .piece in
     let inv = at .inv in
     let made = done .ensures (c .before .before .before .before .if1 .left) in
+    let after = done .result .advanced in
+    let lies : Within (at .window) (length (at .buffer)) = (at .inv .3 .0, omega (arith, at .inv .0, at .inv .3 .1)) in
+    let within : at .at ≤ length (at .out) = omega (arith, at .inv .2, at .inv .4) in
     let carried =
-    piece-replays (at .buffer) (at .window) (at .progress) (at .lent) (at .out) (at .at)
-    (done .last .1 .1 .0) (done .last .1 .1 .1 .0) (done .last .1 .1 .1 .1 .0) (done .result .advanced) (done .kept .1 .1 .0) (made .0) (at .inv .6) in
-    let lies = made .1 in (
+    piece-runs replay replay-laws (at .buffer) (at .window) (at .progress) (at .lent) (at .out) (at .at)
+    (done .last .1 .1 .0) (done .last .1 .1 .1 .0) (done .last .1 .1 .1 .1 .0) (after .progress) (after .window) (after .next) (done .kept .1 .1 .0) (made .0) lies within (at .inv .6) in
+    let next =
+    piece-within replay replay-laws (at .buffer) (at .window) (at .progress) (at .lent) (at .out) (at .at)
+    (done .last .1 .1 .0) (done .last .1 .1 .1 .0) (done .last .1 .1 .1 .1 .0) (after .progress) (after .window) (after .next) (done .kept .1 .1 .0) (made .0) lies within in
+    let stays =
+    piece-lies replay replay-laws (at .buffer) (at .window) (at .progress) (at .lent) (at .out) (at .at)
+    (done .last .1 .1 .0) (done .last .1 .1 .1 .0) (done .last .1 .1 .1 .1 .0) (after .progress) (after .window) (after .next) (done .kept .1 .1 .0) (made .0) lies within in (
       done .kept .1 .1 .0 ∙ inv .0,
       done .kept .1 .1 .1 .0 ∙ inv .1,
       done .kept .1 .1 .1 .1 .0 ∙ inv .2,
-      (lies .0, omega (arith, lies .1, inv .0)),
-      omega (arith, made .2, inv .2),
-      omega (arith, made .3, inv .5, c .before .before .before .before .before .before .before .before .before .before .before .before .before .before .before .loop-test .taken),
+      (stays .0, omega (arith, stays .1, inv .0)),
+      omega (arith, next, inv .2),
+      omega (arith, made .1, inv .5, c .before .before .before .before .before .before .before .before .before .before .before .before .before .before .before .loop-test .taken),
       carried,
     )
 

@@ -1,0 +1,5 @@
+pub mod Lines
+pub mod Laws
+pub mod Slots
+pub mod Loop
+pub mod Samples

@@ -1,0 +1,44 @@
+-- What is put at a turn has no more bytes than the most that are said.
+-- Assumes nothing.
+use Prim.Native.Nat.{ℕ, zero, suc, _+_, _/_, _%_, _≤_}
+use mathlib.Core.Path.{_≡_, refl}
+use mathlib.Core.Bool.{Bool, true, false}
+use mathlib.Core.List.{List, [], _∷_, _++_}
+use native.Mathlib.Omega.{arith}
+use lib.Dec.{ltb}
+use lib.ListN.{length, length-append}
+use Rattle.rules.specs.Rows.{when_answer_else_}
+use Rattle.text.specs.Ascii.{ascii}
+use Rattle.text.specs.Text.{digit, decimalIn, mostDigits, decimalOf}
+use Rattle.replay_lines.specs.Printed.{lineOf, badOf, endOf, mostEnd, mostLine}
+
+digits-fit : (most n : ℕ) → length (decimalIn most n) ≤ most
+unfolding decimalIn
+digits-fit zero n = omega arith
+digits-fit (suc most) n = by (ltb n 10) (digits-fit most (n / 10))
+  where
+    by : (small : Bool) → length (decimalIn most (n / 10)) ≤ most
+        → length (when small answer (digit n ∷ []) else decimalIn most (n / 10) ++ (digit (n % 10) ∷ [])) ≤ suc most
+    by true h = omega arith
+    by false h = omega (arith, h, length-append (decimalIn most (n / 10)) (digit (n % 10) ∷ []))
+
+decimal-fits : (n : ℕ) → length (decimalOf n) ≤ mostDigits
+decimal-fits n = digits-fit mostDigits n
+
+pub line-fits : (slot number : ℕ) → length (lineOf slot number) ≤ mostLine
+line-fits slot number =
+    omega (
+      arith,
+      decimal-fits slot,
+      decimal-fits number,
+      length-append (decimalOf slot) (ascii " "),
+      length-append (decimalOf slot ++ ascii " ") (decimalOf number),
+      length-append (decimalOf slot ++ ascii " " ++ decimalOf number) (ascii "\n"),
+    )
+
+pub end-fits : (count : ℕ) → length (endOf count) ≤ mostEnd
+end-fits count =
+    omega (arith, decimal-fits count, length-append (ascii "end ") (decimalOf count ++ ascii "\n"), length-append (decimalOf count) (ascii "\n"))
+
+pub bad-fits : (count : ℕ) → length (badOf count) ≤ mostLine
+bad-fits count = omega (arith, end-fits count, length-append (ascii "bad\n") (endOf count))

@@ -1,0 +1,4 @@
+pub mod Printed
+pub mod Replay
+pub mod Slot
+pub mod Samples
