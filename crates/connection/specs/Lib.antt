@@ -1,2 +1,1 @@
 pub mod Connection
-pub mod Row

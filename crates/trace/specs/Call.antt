@@ -11,7 +11,7 @@ use Rattle.clock.specs.declared.Count.{Count}
 use Rattle.field.specs.Row.{fieldsOf, widthOf}
 use Rattle.connection.specs.declared.Connection.{Connection}
 use Rattle.connection.specs.Connection.{closed, noSettings}
-use Rattle.connection.specs.Row.{settingsWidths, settingsFrom}
+use Rattle.connection_row.specs.Row.{settingsWidths, settingsFrom}
 use Rattle.calls.specs.declared.Given.{Given}
 use Rattle.calls.specs.declared.Call.{Call}
 use Rattle.calls.specs.Calls.{bad, responder, refused, outcomeOf, given, Leaves, made}

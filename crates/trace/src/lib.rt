@@ -117,7 +117,7 @@ fn given_in(bytes: &[u8]) -> Given
     if bytes.len() == BEGIN_SIZE {
         return Given {
             role: field::read8(bytes, 0),
-            settings: Settings::read(bytes, 1),
+            settings: connection_row::settings_from(bytes, 1),
             own: Own {
                 number: field::read16(bytes, 20),
                 period: field::read32(bytes, 22),

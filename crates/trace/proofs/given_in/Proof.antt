@@ -7,7 +7,7 @@ use lib.ListN.{length}
 use Rattle.field.specs.Field.{fieldOf}
 use Rattle.field.specs.Row.{fieldsOf, widthOf}
 use Rattle.connection.specs.Connection.{noSettings}
-use Rattle.connection.specs.Row.{settingsWidths, settingsFrom}
+use Rattle.connection_row.specs.Row.{settingsWidths, settingsFrom}
 use Rattle.connection.specs.declared.Settings.{Settings}
 use Rattle.connection.specs.declared.Connection.{Connection}
 use Rattle.calls.specs.Calls.{given}
@@ -19,8 +19,8 @@ use Rattle.trace.proofs.given_in.Tie as tie
 read8-requires : tie.Need-read8-requires
 read8-requires c κs = search needs
 
-read-requires : tie.Need-read-requires
-read-requires c κs = search needs
+settings-from-requires : tie.Need-settings-from-requires
+settings-from-requires c κs = search needs
 
 read16-requires : tie.Need-read16-requires
 read16-requires c κs = search needs
@@ -46,7 +46,7 @@ returns : tie.Need-returns
 returns c =
     let s = c .before .before .before .before .before .before .args .bytes .now in
     let whole : length s ≡ widthOf beginWidths = c .before .before .before .before .if1 .taken in
-    in-order s (c .before .before .before .read8 .ensures) (c .before .before .read .ensures) (c .before .read16 .ensures) (c .read32 .ensures)
+    in-order s (c .before .before .before .read8 .ensures) (c .before .before .settings-from .ensures) (c .before .read16 .ensures) (c .read32 .ensures)
     ∙ is-given s whole
 
 all-zero-requires : tie.Need-all-zero-requires
@@ -63,7 +63,7 @@ given-in-spec =
     tie.close
     (tie.spec
     read8-requires
-    read-requires
+    settings-from-requires
     read16-requires
     read32-requires
     returns

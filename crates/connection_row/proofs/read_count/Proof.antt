@@ -1,7 +1,7 @@
--- `connection::read_count` meets its contract. Assumes nothing.
+-- `connection_row::read_count` meets its contract. Assumes nothing.
 use borrow.Author.Needs.{needs}
-use Rattle.connection.proofs.read_count.Statement.{statement}
-use Rattle.connection.proofs.read_count.Tie as tie
+use Rattle.connection_row.proofs.read_count.Statement.{statement}
+use Rattle.connection_row.proofs.read_count.Tie as tie
 
 read32-requires : tie.Need-read32-requires
 read32-requires c κs = search needs

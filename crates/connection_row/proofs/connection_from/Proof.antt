@@ -1,4 +1,4 @@
--- `connection::Connection::read` meets its contract: each part is read where the layout has it. Assumes nothing.
+-- `connection_row::connection_from` meets its contract: each part is read where the layout has it. Assumes nothing.
 use Prim.Native.Nat.{ℕ, _+_}
 use mathlib.Core.Path.{_≡_, ap}
 use mathlib.Core.List.{List}
@@ -8,12 +8,12 @@ use Rattle.field.specs.Field.{fieldOf}
 use Rattle.field.specs.Row.{fieldsOf}
 use Rattle.clock.specs.declared.Count.{Count}
 use Rattle.clock.specs.declared.Offset.{Offset}
 use Rattle.connection.specs.Connection.{made}
-use Rattle.connection.specs.Row.{settingsWidths, settingsFrom, rowWidths, countFrom, offsetFrom, connectionFrom}
+use Rattle.connection_row.specs.Row.{settingsWidths, settingsFrom, rowWidths, countFrom, offsetFrom, connectionFrom}
 use Rattle.connection.specs.declared.Settings.{Settings}
 use borrow.Author.Needs.{needs}
-use Rattle.connection.proofs.Connection.read.Statement.{statement}
-use Rattle.connection.proofs.Connection.read.Tie as tie
+use Rattle.connection_row.proofs.connection_from.Statement.{statement}
+use Rattle.connection_row.proofs.connection_from.Tie as tie
 
 module _ (s : List ℕ) (at : ℕ) where
   -- the settings stand one byte further
@@ -44,11 +44,11 @@ module _ (s : List ℕ) (at : ℕ) where
 read8-requires : tie.Need-read8-requires
 read8-requires c κs = search needs
 
-add-read : tie.Need-add-read
-add-read c = search needs
+add-settings-from : tie.Need-add-settings-from
+add-settings-from c = search needs
 
-read-requires : tie.Need-read-requires
-read-requires c κs = search needs
+settings-from-requires : tie.Need-settings-from-requires
+settings-from-requires c κs = search needs
 
 add-read16 : tie.Need-add-read16
 add-read16 c = search needs
@@ -115,7 +115,7 @@ returns c =
     let start = c .before .before .before .before .before .before .before .before .before .before .before .before .before in
     in-order (start .args .s .now) (start .args .at)
     (c .before .before .before .before .before .before .before .before .before .before .before .read8 .ensures)
-    (c .before .before .before .before .before .before .before .before .before .before .read .ensures)
+    (c .before .before .before .before .before .before .before .before .before .before .settings-from .ensures)
     (c .before .before .before .before .before .before .before .before .before .read16 .ensures)
     (c .before .before .before .before .before .before .before .before .read32 .ensures)
     (c .before .before .before .before .before .before .before .read162 .ensures)
@@ -127,13 +127,13 @@ returns c =
     (c .before .read82 .ensures)
     (c .read-count4 .ensures)
 
-pub read-spec : {M : Type 1} → statement M
-read-spec =
+pub connection-from-spec : {M : Type 1} → statement M
+connection-from-spec =
     tie.close
     (tie.spec
     read8-requires
-    add-read
-    read-requires
+    add-settings-from
+    settings-from-requires
     add-read16
     read16-requires
     add-read32

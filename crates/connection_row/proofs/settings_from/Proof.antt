@@ -1,7 +1,7 @@
--- `connection::Settings::read` meets its contract: each field is read where the layout has it. Assumes nothing.
+-- `connection_row::settings_from` meets its contract: each field is read where the layout has it. Assumes nothing.
 use borrow.Author.Needs.{needs}
-use Rattle.connection.proofs.Settings.read.Statement.{statement}
-use Rattle.connection.proofs.Settings.read.Tie as tie
+use Rattle.connection_row.proofs.settings_from.Statement.{statement}
+use Rattle.connection_row.proofs.settings_from.Tie as tie
 
 read16-requires : tie.Need-read16-requires
 read16-requires c κs = search needs
@@ -39,8 +39,8 @@ read8-requires c κs = search needs
 returns : tie.Need-returns
 returns c = cc
 
-pub read-spec : {M : Type 1} → statement M
-read-spec =
+pub settings-from-spec : {M : Type 1} → statement M
+settings-from-spec =
     tie.close
     (tie.spec
     read16-requires

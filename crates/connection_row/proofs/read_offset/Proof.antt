@@ -1,12 +1,12 @@
--- `connection::read_offset` meets its contract: the count of its bytes, centred. Assumes nothing.
+-- `connection_row::read_offset` meets its contract: the count of its bytes, centred. Assumes nothing.
 use mathlib.Core.Path.{_∙_, ap}
 use lib.IntN.{ℤ, pos, _-ℤ_}
 use Rattle.clock.specs.Clock.{centred}
 use Rattle.clock.specs.declared.Count.{Count}
 use Rattle.clock.specs.declared.Offset.{Offset}
 use borrow.Author.Needs.{needs}
-use Rattle.connection.proofs.read_offset.Statement.{statement}
-use Rattle.connection.proofs.read_offset.Tie as tie
+use Rattle.connection_row.proofs.read_offset.Statement.{statement}
+use Rattle.connection_row.proofs.read_offset.Tie as tie
 
 read-count-requires : tie.Need-read-count-requires
 read-count-requires c κs = search needs
