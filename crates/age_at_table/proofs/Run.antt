@@ -19,14 +19,14 @@ use Rattle.table_promises.specs.Promises.{none, after, LeftAsItWas, Promises}
 use Rattle.table_promises.proofs.Promises.{promises, others-leave-it}
 use Rattle.true_age.specs.Clocks.{World, countOf}
 use Rattle.true_age.specs.History.{Ours, withWritten, JudgedBytes, History, begun, called}
-use Rattle.age_at_table.specs.Run.{comesAt, leftAt, Run, Since, SlotHistory, SlotsAreHistories}
+use Rattle.age_at_table.specs.Run.{whatItComesTo, whatItLeaves, Run, Since, SlotHistory, SlotsAreHistories}
 
 module _ (W : World) (began : W .Moment) (slot role : ℕ) (settings : Settings) where
   abbrev Of : (t : W .Moment) (table : List Connection) (log : List (Ours W)) (last : W .Moment) → Type 0
   Of t table log last = SlotHistory W began slot role settings t table log last
 
   -- a slot that does not answer 101 to everything
-  answers-there : (table : List Connection) (u : W .Moment) (call : Call) (lent out : List ℕ) → leftAt W table slot u call lent out .answer .number ≡ 0
+  answers-there : (table : List Connection) (u : W .Moment) (call : Call) (lent out : List ℕ) → whatItLeaves W table slot u call lent out .answer .number ≡ 0
       → badSlot (length table) slot ≡ false
   unfolding madeAt
   answers-there table u call lent out = go (badSlot (length table) slot)
@@ -40,9 +40,9 @@ module _ (W : World) (began : W .Moment) (slot role : ℕ) (settings : Settings)
 
   begins : (t : W .Moment) (table : List Connection) (u : W .Moment) → W .early t u → (first period : ℕ) (lent out : List ℕ)
       → (role ≡ initiator → W .early began u)
-      → leftAt W table slot u (Call.Begin (given role settings first period)) lent out .answer .number ≡ 0
-      → Of u (leftAt W table slot u (Call.Begin (given role settings first period)) lent out .table)
-      (withWritten W u (comesAt W table slot u (Call.Begin (given role settings first period)) lent out .reply) []) u
+      → whatItLeaves W table slot u (Call.Begin (given role settings first period)) lent out .answer .number ≡ 0
+      → Of u (whatItLeaves W table slot u (Call.Begin (given role settings first period)) lent out .table)
+      (withWritten W u (whatItComesTo W table slot u (Call.Begin (given role settings first period)) lent out .reply) []) u
   begins t table u next first period lent out s z =
       let call : Call = Call.Begin (given role settings first period) in
       let good : badSlot (length table) slot ≡ false = answers-there table u call lent out z in
@@ -51,33 +51,33 @@ module _ (W : World) (began : W .Moment) (slot role : ℕ) (settings : Settings)
         good-slot = ap (λ (n : ℕ). badSlot n slot) (p .changes-no-other .same-size) ∙ good;
         last-before = W .early-refl u;
         history =
-            subst (History W began role settings (withWritten W u (comesAt W table slot u call lent out .reply) []) u) (sym (p .next-record good))
+            subst (History W began role settings (withWritten W u (whatItComesTo W table slot u call lent out .reply) []) u) (sym (p .next-record good))
             (begun (recordAt table slot) first period u lent (length out) s (sym (p .same-number good) ∙ z));
       }
 
   on-it : {t : W .Moment} {table : List Connection} {log : List (Ours W)} {last : W .Moment} → Of t table log last
       → (u : W .Moment) → W .early t u → (call : Call) (lent out : List ℕ)
-      → (ruleOf call .begins ≡ true → eqb (leftAt W table slot u call lent out .answer .number) 0 ≡ false)
-      → (eqb (recordAt table slot .phase) opened ≡ false → leftAt W table slot u call lent out .answer .number ≡ 0
+      → (ruleOf call .begins ≡ true → eqb (whatItLeaves W table slot u call lent out .answer .number) 0 ≡ false)
+      → (eqb (recordAt table slot .phase) opened ≡ false → whatItLeaves W table slot u call lent out .answer .number ≡ 0
       → JudgedBytes W began log u (ruleOf call .message lent))
-      → Of u (leftAt W table slot u call lent out .table) (withWritten W u (comesAt W table slot u call lent out .reply) log) u
+      → Of u (whatItLeaves W table slot u call lent out .table) (withWritten W u (whatItComesTo W table slot u call lent out .reply) log) u
   on-it {t} {table} {log} {last} x u next call lent out again f =
       let p : Promises table slot call (countOf (W .ours u)) lent out = promises table slot call (countOf (W .ours u)) lent out in
-      let same : leftAt W table slot u call lent out .answer .number ≡ comesAt W table slot u call lent out .number = p .same-number (x .good-slot) in
+      let same : whatItLeaves W table slot u call lent out .answer .number ≡ whatItComesTo W table slot u call lent out .number = p .same-number (x .good-slot) in
       record {
         good-slot = ap (λ (n : ℕ). badSlot n slot) (p .changes-no-other .same-size) ∙ x .good-slot;
         last-before = W .early-refl u;
         history =
-            subst (History W began role settings (withWritten W u (comesAt W table slot u call lent out .reply) log) u) (sym (p .next-record (x .good-slot)))
+            subst (History W began role settings (withWritten W u (whatItComesTo W table slot u call lent out .reply) log) u) (sym (p .next-record (x .good-slot)))
             (called (x .history) u (W .early-trans last t u (x .last-before) next) call lent (length out)
             (λ b. subst (λ (k : ℕ). eqb k 0 ≡ false) same (again b)) (λ s z. f s (same ∙ z)));
       }
 
   on-others : {t : W .Moment} {table : List Connection} {log : List (Ours W)} {last : W .Moment} → Of t table log last
       → (u : W .Moment) → W .early t u → (other : ℕ) → other ≢ slot → (call : Call) (lent out : List ℕ)
-      → Of u (leftAt W table other u call lent out .table) log last
+      → Of u (whatItLeaves W table other u call lent out .table) log last
   on-others {t} {table} {log} {last} x u next other n call lent out =
-      let left : LeftAsItWas slot table (leftAt W table other u call lent out .table) =
+      let left : LeftAsItWas slot table (whatItLeaves W table other u call lent out .table) =
       others-leave-it slot table (after none other call (countOf (W .ours u)) lent out n) in
       record {
         good-slot = ap (λ (size : ℕ). badSlot size slot) (left .same-size) ∙ x .good-slot;

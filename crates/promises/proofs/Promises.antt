@@ -108,7 +108,7 @@ pub data Fault : ℕ → Type 0 where
   f205 : Fault 205
   f204 : Fault 204
 
-pub record Leaves (P : Outcome → Type 0) (c : Connection) (now : Count) (p : Parsed) : Type 0 where
+pub record Ways (P : Outcome → Type 0) (c : Connection) (now : Count) (p : Parsed) : Type 0 where
   pub malformed-open : eqb (c .phase) opened ≡ true → P (kept 201 0 (clocked c now))
   pub malformed-set-up : eqb (c .phase) opened ≡ false → P (released 201 0)
   pub unexpected : eqb (c .phase) opened ≡ true → P (kept 211 0 (clocked c now))
@@ -144,7 +144,7 @@ unexpected-released phase type =
     both (λ x. x ≡ Released → eqb phase opened ≡ false) (eqb phase opened && eqb type application) _ _ (λ _ e. (let z : _≡_ {A = ℕ} 0 1 = cc in let q : ⊥ = omega arith in absurd q)) (λ _.
     both (λ x. x ≡ Released → eqb phase opened ≡ false) (eqb phase opened) _ _ (λ o e. (let z : _≡_ {A = ℕ} 0 1 = cc in let q : ⊥ = omega arith in absurd q)) (λ s e. s)))))))
 
-module _ (P : Outcome → Type 0) (c : Connection) (now : Count) (p : Parsed) (l : Leaves P c now p) where
+module _ (P : Outcome → Type 0) (c : Connection) (now : Count) (p : Parsed) (l : Ways P c now p) where
   module _ (h : Header) (t : Tail) (w : p ≡ Parsed.Whole h t) (x : expectationOf (c .phase) (h .kind) ≡ Expected) where
     open-leaf : (k : ℕ) → Fault k → eqb (c .phase) opened ≡ true → P (openFollowsOf c now h t k)
     unfolding openFollowsOf
@@ -181,7 +181,7 @@ module _ (P : Outcome → Type 0) (c : Connection) (now : Count) (p : Parsed) (l
   met-leaf h t w Unexpected e = l .unexpected (unexpected-open (c .phase) (h .kind) e)
   met-leaf h t w Released e = l .unexpected-set-up (unexpected-released (c .phase) (h .kind) e)
 
-step-leaf : (P : Outcome → Type 0) (c : Connection) (now : Count) (p : Parsed) → Leaves P c now p → P (stepOf c now p)
+step-leaf : (P : Outcome → Type 0) (c : Connection) (now : Count) (p : Parsed) → Ways P c now p → P (stepOf c now p)
 unfolding stepOf malformedOf
 step-leaf P c now Parsed.Malformed l = both P (eqb (c .phase) opened) _ _ (λ o. l .malformed-open o) (λ s. l .malformed-set-up s)
 step-leaf P c now (Parsed.Whole h t) l = met-leaf P c now (Parsed.Whole h t) l h t refl (expectationOf (c .phase) (h .kind)) refl
@@ -190,7 +190,7 @@ step-leaf P c now (Parsed.Whole h t) l = met-leaf P c now (Parsed.Whole h t) l h
 pub receive-by : (P : Outcome → Type 0) (c : Connection) (now : Count) (message : List ℕ) (room : ℕ)
     → (not (eqb (receiveRefusal c now room) 0) ≡ true → P (refused (receiveRefusal c now room) c))
     → (receiveRefusal c now room ≡ 0 → expired c now ≡ true → P (released 207 0))
-    → (receiveRefusal c now room ≡ 0 → Leaves P c now (parsedOf message))
+    → (receiveRefusal c now room ≡ 0 → Ways P c now (parsedOf message))
     → P (receiveOutcome c now message room)
 unfolding receiveOutcome
 receive-by P c now message room f g l =

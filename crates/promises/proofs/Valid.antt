@@ -55,7 +55,7 @@ use Rattle.calls.specs.Calls.{
 }
 use Rattle.promises.specs.Promises.{Valid, Stays}
 use Rattle.calls.proofs.Replies.{both, none-refused, row-off, then-off}
-use Rattle.promises.proofs.Promises.{Leaves, receive-by, tick-by}
+use Rattle.promises.proofs.Promises.{Ways, receive-by, tick-by}
 
 no-way : {X : Type 0} → true ≡ false → X
 no-way e = absurd (subst T e tt)
@@ -145,7 +145,7 @@ unfolding refusing
 receive-stays c now message room v =
     receive-by Stays c now message room (λ _. goes-on refl v) (λ _ _. gone refl refl) (λ e. leaves (receive-sound c now room e))
   where
-    leaves : Sound c → Leaves Stays c now (parsedOf message)
+    leaves : Sound c → Ways Stays c now (parsedOf message)
     leaves s =
         record {
           malformed-open = λ _. goes-on refl (inr (is-sound (clocked c now) (clocked-sound c now s)));

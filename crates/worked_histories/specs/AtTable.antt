@@ -16,7 +16,7 @@ use Rattle.table.specs.Left.{LeftAt}
 use Rattle.table.specs.Table.{recordAt}
 use Rattle.true_age.specs.Clocks.{World}
 use Rattle.true_age.specs.History.{Ours}
-use Rattle.age_at_table.specs.Run.{leftAt, Run, none, called, Since}
+use Rattle.age_at_table.specs.Run.{whatItLeaves, Run, none, called, Since}
 use Rattle.worked_histories.specs.Worlds.{Runs, StaysInBand, responders}
 use Rattle.worked_histories.specs.SetUp.{answ1, est, toInitiator, atInitiator}
 use Rattle.worked_histories.specs.Initiator.{settings200}
@@ -47,29 +47,29 @@ module _ (runs : Runs responders) where
 
   -- what each call leaves, on the table that the one before left:
   abbrev pub beginsSlot1 : LeftAt
-  beginsSlot1 = leftAt world table0 1 1000 asInitiator [] out
+  beginsSlot1 = whatItLeaves world table0 1 1000 asInitiator [] out
 
   abbrev pub ticksSlot0 : LeftAt
-  ticksSlot0 = leftAt world (beginsSlot1 .table) 0 1010 Call.Tick [] []
+  ticksSlot0 = whatItLeaves world (beginsSlot1 .table) 0 1010 Call.Tick [] []
 
   abbrev pub takesAnsw1 : LeftAt
-  takesAnsw1 = leftAt world (ticksSlot0 .table) 1 1080 Call.Receive answ1 out
+  takesAnsw1 = whatItLeaves world (ticksSlot0 .table) 1 1080 Call.Receive answ1 out
 
   abbrev pub takesOnSlot7 : LeftAt
-  takesOnSlot7 = leftAt world (takesAnsw1 .table) 7 1090 Call.Receive est out
+  takesOnSlot7 = whatItLeaves world (takesAnsw1 .table) 7 1090 Call.Receive est out
 
   abbrev pub takesEst : LeftAt
-  takesEst = leftAt world (takesOnSlot7 .table) 1 1110 Call.Receive est out
+  takesEst = whatItLeaves world (takesOnSlot7 .table) 1 1110 Call.Receive est out
 
   abbrev pub beginsAgain : LeftAt
-  beginsAgain = leftAt world (takesEst .table) 1 1115 asResponder [] out
+  beginsAgain = whatItLeaves world (takesEst .table) 1 1115 asResponder [] out
 
   abbrev pub beginsSlot0 : LeftAt
-  beginsSlot0 = leftAt world (beginsAgain .table) 0 1120 asResponder [] out
+  beginsSlot0 = whatItLeaves world (beginsAgain .table) 0 1120 asResponder [] out
 
   -- the message is taken at 1172: the answer
   abbrev pub taken : Answer
-  taken = leftAt world (beginsSlot0 .table) 1 1172 Call.Receive message out .answer
+  taken = whatItLeaves world (beginsSlot0 .table) 1 1172 Call.Receive message out .answer
 
   -- the seven calls as a run:
   abbrev pub run1 : Run world 1000 (beginsSlot1 .table)
