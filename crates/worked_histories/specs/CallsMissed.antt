@@ -92,7 +92,7 @@ quickBand0 = record { e = 10; t-max = 200; j = 0; d = 40; oldest = pos 150 }
 abbrev pub reportedMessage : List ℕ
 reportedMessage = toInitiator 22 0x01 0x5E
 
--- with d 40
+-- sent at 1200 and taken at 1370
 abbrev pub quickNumbers : Numbers
 quickNumbers = truly 170 computed pos 200 answers 0 between pos 220 and pos 220
 
@@ -120,7 +120,7 @@ driftingPeers = gaining 2000 3000 responders
 abbrev pub driftedMessage : List ℕ
 driftedMessage = toInitiator 22 0x0C 0x4E
 
--- our count has not gone on from the sending to the taking
+-- sent at 3000 and taken at 2000: the true age counts as 0
 abbrev pub beforeNumbers : Numbers
 beforeNumbers = truly 0 computed negℤ (pos 1970) answers 206 between pos 30 and pos 30
 
@@ -170,7 +170,7 @@ earliersBand0 = record { e = 10; t-max = 200; j = 0; d = 5; oldest = pos 185 }
 abbrev pub earliersNumbers : Numbers
 earliersNumbers = truly 185 computed pos 200 answers 0 between pos 200 and pos 200
 
--- truly
+-- in the true one, where d is 20
 abbrev pub onThisNumbers : Numbers
 onThisNumbers = truly 185 computed pos 200 answers 0 between pos 215 and pos 215
 

@@ -98,7 +98,7 @@ earlierMessage =
     ∷ 0x00 ∷ 0x00 ∷ 0x00 ∷ 0x00
     ∷ 0x55 ∷ []
 
--- with J 0
+-- sent at 0 and taken at 1120
 abbrev pub earlierNumbers : Numbers
 earlierNumbers = truly 1120 computed pos 150 answers 0 between pos 1150 and pos 1150
 
@@ -158,7 +158,7 @@ reportedBand0 = record { e = 10; t-max = 200; j = 0; d = 0; oldest = pos 190 }
 abbrev pub reportedNumbers : Numbers
 reportedNumbers = truly 190 computed pos 200 answers 0 between pos 200 and pos 200
 
--- truly
+-- in the true one, where d is 20
 abbrev pub trueNumbers : Numbers
 trueNumbers = truly 190 computed pos 200 answers 0 between pos 220 and pos 220
 
