@@ -28,9 +28,9 @@ same-length-3 c = search needs
 
 returns-2 : tie.Need-returns-2
 returns-2 c =
-    let first = c .before .before .before .before .before .before .before .before .topped-up in
+    let first = c .before .before .before .before .before .before .before .before .before .topped-up in
     let second = c .before .before .topped-up2 in
-    let read = c .before .before .before .before .if1 .left in λ ok. (
+    let read = c .before .before .before .before .before .if1 .left in λ ok. (
       record {
         up-normal = first .ensures .0;
         up-redundant = second .ensures .0;

@@ -15,13 +15,13 @@ use Rattle.cut.proofs.cut_links.Statement.{statement}
 use Rattle.cut.proofs.cut_links.Tie as tie
 
 abbrev Inv-loop : tie.InvT-loop
-Inv-loop normal-fd normal-name normal₀ redundant-fd redundant-name redundant₀ out₀ place state at₀ p₀ turns₀ normal redundant out at p turns =
+Inv-loop files normal-name normal₀ redundant-name redundant₀ out₀ place state at₀ p₀ turns₀ normal redundant out at p turns =
     (length normal ≡ length normal₀) × (length redundant ≡ length redundant₀) × (length out ≡ length out₀)
     × Lies p (length normal₀) (length redundant₀) × (at ≤ length out₀) × (p .«handed_up» + turns < 2 ^ 64)
     × (p .last ≡ false) × Cutting state normal redundant p out at
 
 abbrev μ-loop : tie.MeasureT-loop
-μ-loop normal-fd normal-name normal₀ redundant-fd redundant-name redundant₀ out₀ place state at₀ p₀ turns₀ normal redundant out at p turns =
+μ-loop files normal-name normal₀ redundant-name redundant₀ out₀ place state at₀ p₀ turns₀ normal redundant out at p turns =
     turns
 
 start-requires : tie.Need-start-requires Inv-loop μ-loop
@@ -39,7 +39,7 @@ loop-holds c =
       start .pre .1 .0,
       omega (arith, ap (λ (p : Progress). p .«handed_up») first),
       ap (λ (p : Progress). p .last) first,
-      cutting-first (a .state) (a .normal .now) (a .redundant .now) first (start .pre .1 .1 .1),
+      cutting-first (a .state) (a .normal .now) (a .redundant .now) first (start .pre .1 .2),
     )
 
 turn-requires : tie.Need-turn-requires Inv-loop μ-loop
@@ -50,7 +50,7 @@ turn-requires c κs =
       ((lies .0 .0, omega (arith, lies .0 .1, inv .0)), (lies .1 .0, omega (arith, lies .1 .1, inv .1))),
       (
         (omega (arith, pre .0 .0, inv .0), omega (arith, pre .0 .1, inv .1)),
-        ((omega (arith, inv .4, inv .2), omega (arith, inv .2, pre .1 .1 .0)), omega (arith, inv .5)),
+        ((omega (arith, inv .4, inv .2), omega (arith, inv .2, pre .1 .1)), omega (arith, inv .5)),
       ),
     )
 
@@ -58,10 +58,10 @@ same-length : tie.Need-same-length Inv-loop μ-loop
 same-length c = c .before .before .before .before .before .before .before .turn .kept .1 .1 .0 ∙ c .before .before .before .before .before .before .before .before .before .before .before .before .loop .inv .0
 
 same-length-2 : tie.Need-same-length-2 Inv-loop μ-loop
-same-length-2 c = c .before .before .before .before .before .before .before .turn .kept .1 .1 .1 .1 .1 .0 ∙ c .before .before .before .before .before .before .before .before .before .before .before .before .loop .inv .1
+same-length-2 c = c .before .before .before .before .before .before .before .turn .kept .1 .1 .1 .1 .0 ∙ c .before .before .before .before .before .before .before .before .before .before .before .before .loop .inv .1
 
 same-length-3 : tie.Need-same-length-3 Inv-loop μ-loop
-same-length-3 c = c .before .before .before .before .before .before .before .turn .kept .1 .1 .1 .1 .1 .1 .0 ∙ c .before .before .before .before .before .before .before .before .before .before .before .before .loop .inv .2
+same-length-3 c = c .before .before .before .before .before .before .before .turn .kept .1 .1 .1 .1 .1 .0 ∙ c .before .before .before .before .before .before .before .before .before .before .before .before .loop .inv .2
 
 returns : tie.Need-returns Inv-loop μ-loop
 returns c = tt
@@ -74,13 +74,13 @@ put-last-requires c κs =
     let start = c .before .before .before .before .before .before .before .before .before .before .before .before .before .before .before .before .before .before .before .before .before .before .before in
     let inv = at .inv in
     let normal = turned .last .1 .1 .0 in
-    let redundant = turned .last .1 .1 .1 .1 .1 .0 in
-    let out = turned .last .1 .1 .1 .1 .1 .1 .0 in
+    let redundant = turned .last .1 .1 .1 .1 .0 in
+    let out = turned .last .1 .1 .1 .1 .1 .0 in
     let after = turned .result .advanced in
     let carried =
     turn-cuts (start .args .state) (at .normal) (at .redundant) (at .p) (at .out) (at .at) normal redundant out after (made .0)
-    (turned .kept .1 .1 .0) (turned .kept .1 .1 .1 .1 .1 .0) (made .2) (inv .6) (inv .7) in (
-      (omega (arith, made .2, turned .kept .1 .1 .1 .1 .1 .1 .0), omega (arith, turned .kept .1 .1 .1 .1 .1 .1 .0, inv .2, start .pre .1 .1 .0)),
+    (turned .kept .1 .1 .0) (turned .kept .1 .1 .1 .1 .0) (made .2) (inv .6) (inv .7) in (
+      (omega (arith, made .2, turned .kept .1 .1 .1 .1 .1 .0), omega (arith, turned .kept .1 .1 .1 .1 .1 .0, inv .2, start .pre .1 .1)),
       printed-to-the-end (start .args .state) normal redundant (after .progress) out (after .next) carried (c .before .if2 .taken),
     )
 
@@ -88,10 +88,10 @@ same-length-4 : tie.Need-same-length-4 Inv-loop μ-loop
 same-length-4 c = c .before .before .before .before .before .before .before .before .before .before .before .before .before .before .turn .kept .1 .1 .0 ∙ c .before .before .before .before .before .before .before .before .before .before .before .before .before .before .before .before .before .before .before .loop .inv .0
 
 same-length-5 : tie.Need-same-length-5 Inv-loop μ-loop
-same-length-5 c = c .before .before .before .before .before .before .before .before .before .before .before .before .before .before .turn .kept .1 .1 .1 .1 .1 .0 ∙ c .before .before .before .before .before .before .before .before .before .before .before .before .before .before .before .before .before .before .before .loop .inv .1
+same-length-5 c = c .before .before .before .before .before .before .before .before .before .before .before .before .before .before .turn .kept .1 .1 .1 .1 .0 ∙ c .before .before .before .before .before .before .before .before .before .before .before .before .before .before .before .before .before .before .before .loop .inv .1
 
 same-length-6 : tie.Need-same-length-6 Inv-loop μ-loop
-same-length-6 c = c .before .before .put-last .kept .0 ∙ c .before .before .before .before .before .before .before .before .before .before .before .before .before .before .turn .kept .1 .1 .1 .1 .1 .1 .0 ∙ c .before .before .before .before .before .before .before .before .before .before .before .before .before .before .before .before .before .before .before .loop .inv .2
+same-length-6 c = c .before .before .put-last .kept .0 ∙ c .before .before .before .before .before .before .before .before .before .before .before .before .before .before .turn .kept .1 .1 .1 .1 .1 .0 ∙ c .before .before .before .before .before .before .before .before .before .before .before .before .before .before .before .before .before .before .before .loop .inv .2
 
 returns-2 : tie.Need-returns-2 Inv-loop μ-loop
 returns-2 c = tt
@@ -111,14 +111,14 @@ loop-again c =
     let inv = at .inv in
     let lies = made .1 in (
       turned .kept .1 .1 .0 ∙ inv .0,
-      turned .kept .1 .1 .1 .1 .1 .0 ∙ inv .1,
-      turned .kept .1 .1 .1 .1 .1 .1 .0 ∙ inv .2,
+      turned .kept .1 .1 .1 .1 .0 ∙ inv .1,
+      turned .kept .1 .1 .1 .1 .1 .0 ∙ inv .2,
       ((lies .0 .0, omega (arith, lies .0 .1, inv .0)), (lies .1 .0, omega (arith, lies .1 .1, inv .1))),
       omega (arith, made .2, inv .2),
       omega (arith, made .3, inv .5, c .before .before .before .before .before .before .before .before .before .before .before .before .before .before .loop-test .taken),
       c .if2 .left,
-      turn-cuts state (at .normal) (at .redundant) (at .p) (at .out) (at .at) (turned .last .1 .1 .0) (turned .last .1 .1 .1 .1 .1 .0)
-          (turned .last .1 .1 .1 .1 .1 .1 .0) (turned .result .advanced) (made .0) (turned .kept .1 .1 .0) (turned .kept .1 .1 .1 .1 .1 .0) (made .2) (inv .6)
+      turn-cuts state (at .normal) (at .redundant) (at .p) (at .out) (at .at) (turned .last .1 .1 .0) (turned .last .1 .1 .1 .1 .0)
+          (turned .last .1 .1 .1 .1 .1 .0) (turned .result .advanced) (made .0) (turned .kept .1 .1 .0) (turned .kept .1 .1 .1 .1 .0) (made .2) (inv .6)
           (inv .7),
     )
 

@@ -53,9 +53,9 @@ advance-requires c κs =
     let place = c .before .before .before .before .before .before .before .before .before .before .before .before .before .before .before .make-room in
     let start = c .before .before .before .before .before .before .before .before .before .before .before .before .before .before .before .before .before .before .before .before .before .before in
     let normal = length (windows .last .1 .1 .0) in
-    let redundant = length (windows .last .1 .1 .1 .1 .1 .0) in (
+    let redundant = length (windows .last .1 .1 .1 .1 .0) in (
       subst (λ (q : Progress). Lies q normal redundant) (sym lent)
-          ((made .1 .0, omega (arith, made .1 .1, windows .kept .1 .1 .0)), (made .2 .0, omega (arith, made .2 .1, windows .kept .1 .1 .1 .1 .1 .0))),
+          ((made .1 .0, omega (arith, made .1 .1, windows .kept .1 .1 .0)), (made .2 .0, omega (arith, made .2 .1, windows .kept .1 .1 .1 .1 .0))),
       (
         omega (arith, place .ensures .1, start .pre .1 .1 .0 .1),
         (
@@ -87,7 +87,7 @@ returns-3 c =
     let after = advance .ensures .1 in
     let lies = after .0 in
     let normal = windows .last .1 .1 .0 in
-    let redundant = windows .last .1 .1 .1 .1 .1 .0 in
+    let redundant = windows .last .1 .1 .1 .1 .0 in
     let first = windows .result .normal in
     let second = windows .result .redundant in λ _. (
       record {
@@ -101,7 +101,7 @@ returns-3 c =
             (subst (λ (q : Progress). AdvancedTo normal redundant q (a .out .now) (place .result .at) (advance .last .1 .1 .0) (advance .result)) lent
             (advance .ensures .0));
       },
-      ((lies .0 .0, omega (arith, lies .0 .1, windows .kept .1 .1 .0)), (lies .1 .0, omega (arith, lies .1 .1, windows .kept .1 .1 .1 .1 .1 .0))),
+      ((lies .0 .0, omega (arith, lies .0 .1, windows .kept .1 .1 .0)), (lies .1 .0, omega (arith, lies .1 .1, windows .kept .1 .1 .1 .1 .0))),
       omega (arith, after .2, place .ensures .1, start .pre .1 .1 .0 .1),
       omega (arith, after .1, ap (λ (q : Progress). q .«handed_up») lent),
     )
