@@ -14,7 +14,7 @@ use Rattle.trace.proofs.Records.{whole-fits, reads-no-more, same-bytes}
 use Rattle.replay_lines.specs.Printed.{mostLine}
 use Rattle.replay_lines.specs.Replay.{replayed, turnOn, turnOf, replay}
 use Rattle.replay_lines.specs.declared.Progress.{Progress}
-use Rattle.replay_lines.proofs.Lines.{line-fits, end-fits, bad-fits}
+use Rattle.replay_lines.proofs.Lines.{line-fits, end-in-line, bad-fits}
 
 used-fits : (p : Progress) (s : List ℕ) → turnOf p s .used ≤ length s
 used-fits p s = by (recordOf s) refl
@@ -45,8 +45,8 @@ text-fits : (p : Progress) (s : List ℕ) → length (turnOf p s .text) ≤ most
 text-fits p s = by (recordOf s)
   where
     by : (n : Next) → length (turnOn p n s .text) ≤ mostLine
-    by End = omega (arith, end-fits (p .count))
-    by Bad = bad-fits (p .count)
+    by End = end-in-line _
+    by Bad = bad-fits _
     by (Whole r) = line-fits (r .slot) _
 
 pub replay-laws : Lawful replay

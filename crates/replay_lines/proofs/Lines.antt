@@ -36,9 +36,12 @@ line-fits slot number =
       length-append (decimalOf slot ++ ascii " " ++ decimalOf number) (ascii "\n"),
     )
 
-pub end-fits : (count : ℕ) → length (endOf count) ≤ mostEnd
+end-fits : (count : ℕ) → length (endOf count) ≤ mostEnd
 end-fits count =
     omega (arith, decimal-fits count, length-append (ascii "end ") (decimalOf count ++ ascii "\n"), length-append (decimalOf count) (ascii "\n"))
+
+pub end-in-line : (count : ℕ) → length (endOf count) ≤ mostLine
+end-in-line count = omega (arith, end-fits count)
 
 pub bad-fits : (count : ℕ) → length (badOf count) ≤ mostLine
 bad-fits count = omega (arith, end-fits count, length-append (ascii "bad\n") (endOf count))
