@@ -67,8 +67,8 @@ unsound c = outOfRange (c .settings) || (c .phase) outside initiatorWaitsFor2 to
 -- ---- a record of its parts, and the one that is all zero
 
 -- every record is made here, of its parts in their order
-abbrev pub made : ℕ → Settings → Own → Peer → Count → Offsets → ℕ → Count → Connection
-made phase settings own peer since offsets errors clock =
+abbrev pub ofParts : ℕ → Settings → Own → Peer → Count → Offsets → ℕ → Count → Connection
+ofParts phase settings own peer since offsets errors clock =
     record {
       phase = phase;
       settings = settings;
@@ -99,21 +99,21 @@ noOffsets = record { min = record { 0 = pos 0 }; max = record { 0 = pos 0 } }
 
 -- RECORD-3: a released slot
 abbrev pub allZero : Connection
-allZero = made closed noSettings noOwn noPeer noCount noOffsets 0 noCount
+allZero = ofParts closed noSettings noOwn noPeer noCount noOffsets 0 noCount
 
 -- ---- what changes together, a line each
 
 -- what begin is given for the whole of the connection
 abbrev pub configured : Connection → Settings → Own → Connection
-configured c settings own = made (c .phase) settings own (c .peer) (c .«wait_start») (c .offsets) (c .errors) (c .clock)
+configured c settings own = ofParts (c .phase) settings own (c .peer) (c .«wait_start») (c .offsets) (c .errors) (c .clock)
 
 -- KIND-5: the remembered clock
 abbrev pub clocked : Connection → Count → Connection
-clocked c now = made (c .phase) (c .settings) (c .own) (c .peer) (c .«wait_start») (c .offsets) (c .errors) now
+clocked c now = ofParts (c .phase) (c .settings) (c .own) (c .peer) (c .«wait_start») (c .offsets) (c .errors) now
 
 -- ERR-1, ERR-4: the error counter
 abbrev pub counted : Connection → ℕ → Connection
-counted c errors = made (c .phase) (c .settings) (c .own) (c .peer) (c .«wait_start») (c .offsets) errors (c .clock)
+counted c errors = ofParts (c .phase) (c .settings) (c .own) (c .peer) (c .«wait_start») (c .offsets) errors (c .clock)
 
 -- ERR-6: the last number, the remembered peer stamp and its arrival
 abbrev pub heardOf : Header → Count → Peer
@@ -121,7 +121,7 @@ heardOf h now = record { number = h .number; stamp = h .stamp; arrival = now }
 
 -- heard from the peer
 abbrev pub heard : Connection → Header → Count → Connection
-heard c h now = made (c .phase) (c .settings) (c .own) (heardOf h now) (c .«wait_start») (c .offsets) (c .errors) (c .clock)
+heard c h now = ofParts (c .phase) (c .settings) (c .own) (heardOf h now) (c .«wait_start») (c .offsets) (c .errors) (c .clock)
 
 -- NUMBER-1: one message more was sent
 abbrev pub oneMore : Own → Own
@@ -129,16 +129,16 @@ oneMore own = record { number = nextOf (own .number); period = own .period }
 
 -- sent by us
 abbrev pub sent : Connection → Connection
-sent c = made (c .phase) (c .settings) (oneMore (c .own)) (c .peer) (c .«wait_start») (c .offsets) (c .errors) (c .clock)
+sent c = ofParts (c .phase) (c .settings) (oneMore (c .own)) (c .peer) (c .«wait_start») (c .offsets) (c .errors) (c .clock)
 
 -- WAIT-1: a phase, and the now of the send that began its wait
 abbrev pub waiting : Connection → ℕ → Count → Connection
-waiting c phase since = made phase (c .settings) (c .own) (c .peer) since (c .offsets) (c .errors) (c .clock)
+waiting c phase since = ofParts phase (c .settings) (c .own) (c .peer) since (c .offsets) (c .errors) (c .clock)
 
 -- OFFSET-2, OFFSET-3: the offsets of set-up
 abbrev pub withOffsets : Connection → Offset → Offset → Connection
 withOffsets c min max =
-    made (c .phase) (c .settings) (c .own) (c .peer) (c .«wait_start») (record { min = min; max = max }) (c .errors) (c .clock)
+    ofParts (c .phase) (c .settings) (c .own) (c .peer) (c .«wait_start») (record { min = min; max = max }) (c .errors) (c .clock)
 
 -- the record of begin, before anything was sent: every field anew (RECORD-2), any first number and period (RANGE-FREE), begin's now
 -- (KIND-5), no wait (WAIT-3)

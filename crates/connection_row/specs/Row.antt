@@ -6,7 +6,7 @@ use lib.ListN.{getD, drop}
 use Rattle.clock.specs.Clock.{centred}
 use Rattle.clock.specs.declared.Count.{Count}
 use Rattle.clock.specs.declared.Offset.{Offset}
-use Rattle.connection.specs.Connection.{made}
+use Rattle.connection.specs.Connection.{ofParts}
 use Rattle.connection.specs.declared.Settings.{Settings}
 use Rattle.connection.specs.declared.Connection.{Connection}
 
@@ -42,7 +42,7 @@ offsetFrom n = record { 0 = centred (pos n -ℤ pos 0) }
 -- the record of these fields, in this order
 abbrev pub connectionFrom : List ℕ → Connection
 connectionFrom fields =
-    made (getD fields 0 0) (settingsFrom (drop 1 fields))
+    ofParts (getD fields 0 0) (settingsFrom (drop 1 fields))
     (record { number = getD fields 7 0; period = getD fields 8 0 })
     (record { number = getD fields 9 0; stamp = countFrom (getD fields 10 0); arrival = countFrom (getD fields 11 0) })
     (countFrom (getD fields 12 0))

@@ -8,7 +8,7 @@ use Rattle.field.specs.Field.{fieldOf}
 use Rattle.field.specs.Row.{fieldsOf}
 use Rattle.clock.specs.declared.Count.{Count}
 use Rattle.clock.specs.declared.Offset.{Offset}
-use Rattle.connection.specs.Connection.{made}
+use Rattle.connection.specs.Connection.{ofParts}
 use Rattle.connection_row.specs.Row.{settingsWidths, settingsFrom, rowWidths, countFrom, offsetFrom, connectionFrom}
 use Rattle.connection.specs.declared.Settings.{Settings}
 use borrow.Author.Needs.{needs}
@@ -36,7 +36,7 @@ module _ (s : List ℕ) (at : ℕ) where
       → peer ≡ fieldOf s (at + 26) 2 → stamp ≡ countFrom (fieldOf s (at + 28) 4) → arrival ≡ countFrom (fieldOf s (at + 32) 4)
       → wait ≡ countFrom (fieldOf s (at + 36) 4) → min ≡ offsetFrom (fieldOf s (at + 40) 4) → max ≡ offsetFrom (fieldOf s (at + 44) 4)
       → errors ≡ fieldOf s (at + 48) 1 → clock ≡ countFrom (fieldOf s (at + 49) 4)
-      → made phase settings (record { number = own; period = period }) (record { number = peer; stamp = stamp; arrival = arrival }) wait
+      → ofParts phase settings (record { number = own; period = period }) (record { number = peer; stamp = stamp; arrival = arrival }) wait
       (record { min = min; max = max }) errors clock
       ≡ connectionFrom (fieldsOf rowWidths s at)
   in-order e1 e2 e3 e4 e5 e6 e7 e8 e9 e10 e11 e12 = cc same-settings
