@@ -105,7 +105,7 @@ use Rattle.table.proofs.make_in.Code as code
 abbrev stayed : Stays (this.ended .signature .params) (this.ended .kept)
 stayed = (stay-none (λ _. Array T.the-row 64) yes, (stay-none (λ _. usize) yes, (stay-none (λ _. Call-t.the-row) yes, (stay-none (λ _. Count-t.the-row) yes, (stay-none-slice (0 ∷ []) tt (plain (λ _. u8)) yes, (gave-slice (1 ∷ []) tt (plain (λ _. u8)), tt))))))
 
--- the contract of `table::make`
+-- the contract of `make`
 module _ {M : Type 1} (𝓤 : URA M) (H : Heap 𝓤) (A : Atoms 𝓤) (mem′ : Memory → SProp 𝓤) (run : Routine → Fun 𝓤) where
   abbrev Callee : Contract 𝓤
   Callee = tripleOf 𝓤 H A call.signature (call.spec 𝓤 H A mem′ run)
@@ -144,8 +144,7 @@ module _ {M : Type 1} (𝓤 : URA M) (H : Heap 𝓤) (A : Atoms 𝓤) (W : Given
   Left ws = ‵ (Own ys v) ∷ ‵ ((ShrSlice (named 0) κ₀ u8) .own lent (slice-of lent ∷ [])) ∷ ‵ (finally u8 (out .name) ws) ∷ ‵ (flft κ₀ q₀) ∷ ‵ (flft κ₁ q₁) ∷ []
 
   exits : (r : Answer) (w u : Val) (zs : List Connection) (ws : List ℕ) → length ws ≡ length (out .now) → Said r zs ws → Is R.the-row r (w ∷ [])
-      → Is (Array T.the-row 64) zs (u ∷ [])
-      → ent 𝓤 (⋆ 𝓤 H A (Left ws)) (Post (pair w u))
+      → Is (Array T.the-row 64) zs (u ∷ []) → ent 𝓤 (⋆ 𝓤 H A (Left ws)) (Post (pair w u))
   exits r w u zs ws l′ said isr isz =
       qed W (Left ws) ∵
       suffices ! _ (ends-at 𝓤 H A this.ended stayed (this.clauses 𝓤 H A mem′ run) W bound (pair w u) (held r zs) (tt, (tt, (tt, (tt, (tt, (ws, tt))))))
@@ -156,7 +155,7 @@ module _ {M : Type 1} (𝓤 : URA M) (H : Heap 𝓤) (A : Atoms 𝓤) (W : Given
       owned ! usize (Is usize) (uint-makes 𝓤 H A W w64) i _ (refl, gi) $ fjoin ! $ move ! (1 ∷ 0 ∷ []) $ fjoin ! $ frame ! $
       owned ! B.the-row (Is B.the-row) (LL.makes B.the-type B-laws.the-plain 𝓤 H A) (held r zs) _ (is-held r w u zs isr isz) $ done !
 
-  -- what `table::make` is called with: the slice at (l, 0), for the lifetime ν, under the name γ
+  -- what `make` is called with: the slice at (l, 0), for the lifetime ν, under the name γ
   module _ (ν l : ℕ) (γ : GName) where
     abbrev s : Val
     s = sliceVal (l, 0) (length ys)
