@@ -1,4 +1,4 @@
--- How long an input and its lines may be.
+-- How long an input and its text may be.
 -- Assumes nothing.
 use Prim.Native.Nat.{ℕ}
 
@@ -6,6 +6,6 @@ use Prim.Native.Nat.{ℕ}
 abbrev pub mostInput : ℕ
 mostInput = 32768
 
--- the lines of an input have at most so many bytes
-abbrev pub mostLines : ℕ
-mostLines = 32768
+-- the text of an input has at most so many bytes, of whichever kind it is
+abbrev pub mostText : ℕ
+mostText = 32768

@@ -3,18 +3,10 @@
 ghost use mathlib.Core.Path.{_≡_};
 ghost use Prim.Native.Nat.{_+_, _≤_};
 ghost use lib.ListN.{length};
-ghost use Rattle.single.specs.Sizes.{mostInput, mostLines};
+ghost use Rattle.single.specs.Sizes.{mostInput, mostText};
 ghost use Rattle.window.specs.Window.{Within};
-
-mod one_call;
-mod one_message;
-mod one_packet;
-mod one_record;
-mod one_step;
-mod one_table;
-mod one_write;
-
 use text::Chosen;
+use text::Done;
 use window::Window;
 
 // An input fits a window that has so many bytes.
@@ -31,18 +23,13 @@ enum Kind {
     None,
 }
 
-// The place after an input's lines in the out buffer, and how many bytes of the file it used; none where no whole input is there.
-pub struct Done {
-    pub next: usize,
-    pub used: usize,
-}
-
 // The window after an input, and whether to go on.
 struct Turned {
     window: Window,
     goes_on: bool,
 }
 
+// What an input is, by the word that asks for it.
 fn kind_of(word: &[u8]) -> Kind {
     match text::choose(word, b"steps", b"packets") {
         Chosen::First => Kind::Step,
@@ -61,17 +48,17 @@ fn kind_of(word: &[u8]) -> Kind {
 
 // The input at the front of s, if it is there whole, and its lines.
 fn input_at(kind: Kind, s: &[u8], out: &mut [u8]) -> Done
-    requires { ⌜ mostLines ≤ length (now out) ⌝ }
-    ensures { λ r. ⌜ (r .next ≤ mostLines) × (r .used ≤ length (now (s .entry))) ⌝ }
+    requires { ⌜ mostText ≤ length (now out) ⌝ }
+    ensures { λ r. ⌜ (r .next ≤ mostText) × (r .used ≤ length (now (s .entry))) ⌝ }
 {
     match kind {
-        Kind::Step => one_step::step_at(s, out),
-        Kind::Packet => one_packet::packet_at(s, out),
-        Kind::Message => one_message::message_at(s, out),
-        Kind::Call => one_call::call_at(s, out),
-        Kind::Table => one_table::table_at(s, out),
-        Kind::Write => one_write::write_at(s, out),
-        Kind::None => Done { next: 0, used: 0 },
+        Kind::Step => link_lines::step_at(s, out),
+        Kind::Packet => link_lines::packet_at(s, out),
+        Kind::Message => message_lines::message_at(s, out),
+        Kind::Call => call_lines::call_at(s, out),
+        Kind::Table => call_lines::table_at(s, out),
+        Kind::Write => message_lines::write_at(s, out),
+        Kind::None => Done::not_whole(),
     }
 }
 
@@ -84,7 +71,7 @@ fn say_cut(left: usize) {
 
 // The input at the front of a window, its lines, and the window with the input used up.
 fn taken(kind: Kind, buffer: &[u8], out: &mut [u8], window: Window) -> Turned
-    requires { ⌜ Within window (length (now buffer)) × (mostLines ≤ length (now out)) ⌝ }
+    requires { ⌜ Within window (length (now buffer)) × (mostText ≤ length (now out)) ⌝ }
     ensures { λ r. ⌜ Within (r .window) (length (now (buffer .entry))) ⌝ }
 {
     let from = window.from;
@@ -112,7 +99,7 @@ fn turn(
     out: &mut [u8],
     window: Window,
 ) -> Turned
-    requires { ⌜ Within window (length (now buffer)) × (mostInput ≤ length (now buffer)) × (mostLines ≤ length (now out)) ⌝ }
+    requires { ⌜ Within window (length (now buffer)) × (mostInput ≤ length (now buffer)) × (mostText ≤ length (now out)) ⌝ }
     ensures { λ r. ⌜ Within (r .window) (length (now (buffer .entry))) ⌝ }
 {
     let topped = window::topped_up(fd, name, buffer, window, MOST_INPUT);
@@ -128,7 +115,7 @@ fn turn(
 
 // The inputs of a file, one after the other. A proved loop has to end, so it counts its turns down, from a number that no run uses up.
 fn all(kind: Kind, fd: i32, name: &[u8], buffer: &mut [u8], out: &mut [u8])
-    requires { ⌜ (mostInput ≤ length (now buffer)) × (mostLines ≤ length (now out)) ⌝ }
+    requires { ⌜ (mostInput ≤ length (now buffer)) × (mostText ≤ length (now out)) ⌝ }
 {
     let mut window = Window::empty();
     let mut turns = u64::MAX;
@@ -142,6 +129,7 @@ fn all(kind: Kind, fd: i32, name: &[u8], buffer: &mut [u8], out: &mut [u8])
     }
 }
 
+// The inputs of an open file, with buffers of their own.
 fn run(kind: Kind, fd: i32, name: &[u8]) {
     let mut buffer = io::large_buffer();
     let mut out = io::large_buffer();
@@ -167,6 +155,7 @@ fn run_named(kind: Kind) {
     libc::close(fd);
 }
 
+// Says what the arguments are.
 fn usage() {
     text::say(
         b"single: the arguments are steps, packets, messages, writes, calls or tables, and FILE\n",

@@ -21,11 +21,26 @@ pub struct Place {
     pub failed: bool,
 }
 
+// What came of an input: the place after its text in the out buffer, and how many bytes of its file it used; none where it is not whole.
+pub struct Done {
+    pub next: usize,
+    pub used: usize,
+}
+
 // Which of two words a word is.
 pub enum Chosen {
     First,
     Second,
     Neither,
+}
+
+impl Done {
+    // No whole input is there.
+    pub fn not_whole() -> Done
+        ensures { λ r. ⌜ (r .next ≡ 0) × (r .used ≡ 0) ⌝ }
+    {
+        Done { next: 0, used: 0 }
+    }
 }
 
 // Puts bytes at a place, and answers the place after them.
