@@ -2,6 +2,7 @@
 # and where two outputs differ. A script over it has its inputs, what it expects of them, and what must occur.
 import collections
 import contextlib
+import hashlib
 import os
 import subprocess
 import sys
@@ -101,13 +102,25 @@ def no_other(names, counts):
         fail("not one that 01 has there: %s" % other)
 
 
+def independent_built():
+    """The independent program, built once for all comparisons of the same source: its path."""
+    source = hashlib.sha256()
+    for place, _, names in sorted(os.walk(os.path.join(ROOT, "independent"))):
+        for name in sorted(names):
+            source.update(contents(os.path.join(place, name)))
+    built = os.path.join(ROOT, "target", "independent-" + source.hexdigest()[:16])
+    if not os.path.exists(built):
+        must([os.path.join(ROOT, "independent", "build"), built + ".part"])
+        os.rename(built + ".part", built)
+    return built
+
+
 class Programs:
     """The independent program beside the proved ones, and a folder for the files that go into them."""
 
     def __init__(self, folder):
         self.folder = folder
-        self.built = os.path.join(folder, "independent")
-        must([os.path.join(ROOT, "independent", "build"), self.built])
+        self.built = independent_built()
 
     def independent(self, words, given=b""):
         """What the independent program prints."""
