@@ -10,7 +10,7 @@ use borrow.Author.Tests.{le-ltb, lt-leb, ne-eqb, not-true}
 use lib.Dec.{eqb, leb}
 use lib.ListN.{length, take, drop, length-drop}
 use lib.Seq.{length-take-le}
-use Rattle.number.specs.Number.{distanceOf}
+use Rattle.number.specs.Number.{distanceOf, behindFrom}
 use Rattle.field.specs.Row.{Bytes}
 use Rattle.packet.specs.Sizes.{lengthSize, packetHeaderSize, leastLength, mostLength, mostUserData}
 use Rattle.packet_types.specs.Types.{dataPacket, releasePacket, classesOf, inClassD, opens, openingFault}
@@ -24,7 +24,7 @@ use Rattle.packet_writing.proofs.Answers.{all-written, says-all}
 use Rattle.links.specs.declared.State.{State}
 use Rattle.links.specs.declared.Taken.{Taken}
 use Rattle.links.specs.Taken.{handedUp}
-use Rattle.links.specs.Table.{lengthAt, lengthFault, judgeable, held, bothDown, openingOf, notOpening, behindFrom, notLater, tooFar, classDRows, rowsOf, userDataOf}
+use Rattle.links.specs.Table.{lengthAt, lengthFault, judgeable, held, bothDown, openingOf, notOpening, notLater, tooFar, classDRows, rowsOf, userDataOf}
 use Rattle.link_promises.specs.Promises.{ofLink, LooseHandsUp, AcceptedWritesBack}
 use Rattle.links.proofs.Bools.{both-true, both-false}
 use Rattle.links.proofs.ClassRows.{row-later}

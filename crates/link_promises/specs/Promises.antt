@@ -6,7 +6,7 @@ use mathlib.Core.Bool.{Bool, true, false, not, cond, _&&_}
 use mathlib.Core.List.{List, [], _∷_, _++_, List·Memᴰ}
 use mathlib.Core.Logic.{_⊎_}
 use lib.ListN.{length, take, drop}
-use Rattle.number.specs.Number.{distanceOf}
+use Rattle.number.specs.Number.{distanceOf, behindFrom}
 use Rattle.field.specs.Row.{Bytes}
 use Rattle.packet.specs.Sizes.{mostPacket}
 use Rattle.packet.specs.Packet.{packetHeaderAt, userDataAt, PacketOn}
@@ -15,7 +15,7 @@ use Rattle.packet_writing.specs.Writing.{packetWritten, bytesWritten}
 use Rattle.links.specs.declared.State.{State}
 use Rattle.links.specs.declared.Taken.{Taken}
 use Rattle.links.specs.Taken.{downOf, emptyPart, handedUp}
-use Rattle.links.specs.Table.{behindFrom, held, takenOf, userDataOf}
+use Rattle.links.specs.Table.{held, takenOf, userDataOf}
 
 -- LINK-NAMED: of the two links, what belongs to the normal one or to the other: its bytes, its place
 abbrev pub ofLink : {A : Type 0} → Bool → A → A → A

@@ -7,7 +7,7 @@ use mathlib.Core.List.{List, []}
 use lib.Dec.{eqb, ltb, leb}
 use lib.ListN.{length, take, drop}
 use Rattle.rules.specs.Rows.{when_answer_else_}
-use Rattle.number.specs.Number.{distanceOf}
+use Rattle.number.specs.Number.{distanceOf, behindFrom}
 use Rattle.field.specs.Field.{fieldOf}
 use Rattle.packet.specs.Sizes.{lengthSize, leastLength, mostLength, packetSize}
 use Rattle.packet_types.specs.Types.{au1, au2, inClassD, opens, openingFault}
@@ -44,11 +44,7 @@ openingOf responder = cond responder au1 au2
 -- LINK-309: a first packet that is no acceptable opening for the role
 unfoldable pub notOpening : Bool → Header → List ℕ → Bool
 notOpening responder header userData =
-    not (eqb (header .kind) (cond responder au1 au2)) || openingFault (header .kind) (header .number) userData
-
--- LINK-306: from this d on a packet lies behind
-abbrev pub behindFrom : ℕ
-behindFrom = 32768
+    not (eqb (header .kind) (openingOf responder)) || openingFault (header .kind) (header .number) userData
 
 -- LINK-306: a later packet that opens again, repeats or lies behind
 unfoldable pub notLater : ℕ → ℕ → Bool

@@ -9,12 +9,10 @@ ghost use Rattle.links.specs.Taken.{freshState, emptyPart, linkDown, dro
 ghost use Rattle.links.specs.Place.{partPlace, userDataPlace};
 ghost use Rattle.links.specs.Table.{lengthFault, judgeable, held, bothDown, openingOf, notOpening, notLater, tooFar};
 ghost use Rattle.links.specs.Table.{classDRows, rowsOf, takenOf, partOf, userDataOf};
+use number::BEHIND_FROM;
 use packet::Header;
 use packet_types::AU1;
 use packet_types::AU2;
-
-// LINK-306: from this d on a packet lies behind.
-const BEHIND_FROM: u16 = 32768;
 
 // The links that are up, the role, the setting, whether the first packet is still awaited, and the number last handed up.
 pub struct State {

@@ -11,6 +11,10 @@ numbers = 65536
 unfoldable pub distanceOf : ℕ → ℕ → ℕ
 distanceOf number last = modulo (pos number -ℤ pos last) numbers
 
+-- LINK-306, PEER-202: from this d on a number lies behind, half of all numbers away
+abbrev pub behindFrom : ℕ
+behindFrom = 32768
+
 -- NUMBER-1: the number that follows, by ones, and 0 after the last
 unfoldable pub nextOf : ℕ → ℕ
 nextOf number = modulo (pos (number + 1)) numbers

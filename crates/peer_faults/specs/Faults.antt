@@ -7,7 +7,7 @@ use lib.Signed.{ltZ}
 use Rattle.rules.specs.Rows.{when_answer_else_}
 use Rattle.clock.specs.Clock.{centred, ageOf, verdictOf, verdictNumber}
 use Rattle.clock.specs.declared.Count.{Count}
-use Rattle.number.specs.Number.{distanceOf}
+use Rattle.number.specs.Number.{distanceOf, behindFrom}
 use Rattle.message.specs.Table.{offsetStart, offsetAnsw1, offsetAnsw2, offsetEst, offsetEnd, application}
 use Rattle.message.specs.declared.Header.{Header}
 use Rattle.message.specs.declared.Tail.{Tail}
@@ -41,9 +41,9 @@ expectationOf phase type =
 unfoldable pub numberJudged : ℕ → Bool
 numberJudged type = ltb offsetAnsw1 type
 
--- PEER-202: d = 0 or >= 32768
+-- PEER-202: d = 0, or from 32768 on
 unfoldable pub notAhead : ℕ → ℕ → Bool
-notAhead type d = numberJudged type && (eqb d 0 || leb 32768 d)
+notAhead type d = numberJudged type && (eqb d 0 || leb behindFrom d)
 
 -- PEER-203: d > N
 unfoldable pub beyondN : ℕ → ℕ → ℕ → Bool

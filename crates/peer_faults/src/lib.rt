@@ -31,6 +31,7 @@ use message::OFFSET_END;
 use message::OFFSET_EST;
 use message::OFFSET_START;
 use message::Tail;
+use number::BEHIND_FROM;
 
 // PEER-211: whether a message's type is the one awaited; if not, in set-up released.
 pub enum Expectation {
@@ -81,7 +82,7 @@ fn not_ahead(kind: u8, d: u16) -> bool
     if d == 0 {
         return true;
     }
-    32768 <= d
+    BEHIND_FROM <= d
 }
 
 // PEER-203.
