@@ -241,13 +241,13 @@ fn cut_files(files: Files, normal_name: &[u8], redundant_name: &[u8], state: Sta
 fn cut_named(state: State) {
     let mut normal_name = io::buffer();
     let normal_size = os::arg(3, &mut normal_name);
-    let normal_fd = window::opened(&normal_name[..normal_size], b"NORMAL");
+    let normal_fd = window::open_file(&normal_name[..normal_size], b"NORMAL");
     if normal_fd < 0 {
         return;
     }
     let mut redundant_name = io::buffer();
     let redundant_size = os::arg(4, &mut redundant_name);
-    let redundant_fd = window::opened(&redundant_name[..redundant_size], b"REDUNDANT");
+    let redundant_fd = window::open_file(&redundant_name[..redundant_size], b"REDUNDANT");
     if redundant_fd < 0 {
         return;
     }

@@ -9,12 +9,12 @@ use Rattle.text.specs.Line.{mostWrittenWords}
 use Rattle.link_lines.specs.declared.one_packet.Packet.{Packet}
 
 -- link, version, application type, number, packet type, room, size; the user data follows them
-abbrev pub packetWidths : List ℕ
-packetWidths = 1 ∷ 1 ∷ 1 ∷ 2 ∷ 1 ∷ 2 ∷ 2 ∷ []
+abbrev pub packetGivenWidths : List ℕ
+packetGivenWidths = 1 ∷ 1 ∷ 1 ∷ 2 ∷ 1 ∷ 2 ∷ 2 ∷ []
 
 -- how many bytes these fields take
 abbrev pub packetFieldsSize : ℕ
-packetFieldsSize = widthOf packetWidths
+packetFieldsSize = widthOf packetGivenWidths
 
 -- the packet of these fields, in this order
 abbrev pub packetFrom : List ℕ → Packet

@@ -5,7 +5,7 @@ ghost use mathlib.Core.Path.{_≡_};
 ghost use Prim.Native.Nat.{_≤_};
 ghost use lib.ListN.{length};
 ghost use Rattle.field.specs.Row.{fieldsOf};
-ghost use Rattle.link_lines.specs.Packet.{packetWidths, packetFieldsSize, packetFrom, mostPacketRoom, mostPacketText};
+ghost use Rattle.link_lines.specs.Packet.{packetGivenWidths, packetFieldsSize, packetFrom, mostPacketRoom, mostPacketText};
 use packet_writing::Written;
 use text::Done;
 
@@ -29,7 +29,7 @@ struct Packet {
 // FIELD-2: the fields that stand at the front of s.
 fn packet_from(s: &[u8]) -> Packet
     requires { ⌜ packetFieldsSize ≤ length (now s) ⌝ }
-    ensures { λ r. ⌜ r ≡ packetFrom (fieldsOf packetWidths (now (s .entry)) 0) ⌝ }
+    ensures { λ r. ⌜ r ≡ packetFrom (fieldsOf packetGivenWidths (now (s .entry)) 0) ⌝ }
 {
     Packet {
         link: field::read8(s, 0),

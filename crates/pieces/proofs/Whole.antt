@@ -16,7 +16,7 @@ use Rattle.window.specs.Window.{Within, emptyWindow, leftOf, unread, lowOf, use
 use Rattle.window.specs.declared.Window.{Window}
 use Rattle.window.specs.declared.Refilled.{Refilled}
 use Rattle.window.proofs.Unread.{length-unread, unread-used, enough-or-ended, low-not-ended, unread-refilled}
-use Rattle.pieces.specs.Machine.{Turn, Machine, Lawful, printsFrom, wholeOf}
+use Rattle.pieces.specs.Machine.{Turn, Machine, Lawful, printsFrom, printsFor}
 use Rattle.pieces.specs.Pieces.{
   Reach,
   waits,
@@ -119,7 +119,7 @@ module _ (m : Machine) (laws : Lawful m) where
 
   -- a run through a window prints what is left to print
   prints : (file : List ℕ) {buffer : List ℕ} {w : Window} {toRead : List ℕ} {p : m .State} {printed : List ℕ} → Runs m file buffer w toRead p printed
-      → Prints buffer toRead (wholeOf m file) (record { state = p; window = w; text = printed; lent = [] })
+      → Prints buffer toRead (printsFor m file) (record { state = p; window = w; text = printed; lent = [] })
   prints file (starts buffer) = record { lies = (omega arith, omega arith); all = λ e. absurd (false≢true e); whole = refl }
   prints file (refills {buffer} {w} {toRead} {p} {printed} run after r refilled size rest next all) =
       let holds = prints file run in
@@ -234,5 +234,5 @@ module _ (m : Machine) (laws : Lawful m) where
     written = was .written;
     whole =
         pieces-as-whole (was .read ++ []) buffer w [] p (was .written ++ take at out) (was .runs [] (λ _. refl)) stopped
-        ∙ ap (wholeOf m) (append-nil (was .read));
+        ∙ ap (printsFor m) (append-nil (was .read));
   }

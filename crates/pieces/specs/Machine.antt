@@ -52,5 +52,5 @@ GoesOn m = (p : m .State) (rest : List ℕ) → printsFrom m p rest ≡ (
     (m .turn p rest .text ++ printsFrom m (m .turn p rest .next) (drop (m .turn p rest .used) rest)))
 
 -- what is printed for a whole file
-abbrev pub wholeOf : Machine → List ℕ → List ℕ
-wholeOf m file = m .heading ++ printsFrom m (m .first) file
+abbrev pub printsFor : Machine → List ℕ → List ℕ
+printsFor m file = m .heading ++ printsFrom m (m .first) file

@@ -11,7 +11,7 @@ use Rattle.text.specs.Text.{PutAt, placeOf}
 use Rattle.window.specs.Window.{emptyWindow, leftOf, unread, lowOf, usedOf, RefilledFrom, wasRead, ToppedUp}
 use Rattle.window.specs.declared.Window.{Window}
 use Rattle.window.specs.declared.Refilled.{Refilled}
-use Rattle.pieces.specs.Machine.{Turn, Machine, wholeOf}
+use Rattle.pieces.specs.Machine.{Turn, Machine, printsFor}
 
 -- How far a machine is with the bytes at hand: its state, the window on those that are left, what was printed, and what the buffer lent to
 -- the turns holds.
@@ -98,7 +98,7 @@ pub data Runs (m : Machine) (file : List ℕ) : List ℕ → Window → List ℕ
 abbrev pub PiecesAsWhole : Machine → Type 0
 PiecesAsWhole m =
     (file buffer : List ℕ) (w : Window) (toRead : List ℕ) (p : m .State) (printed : List ℕ)
-    → Runs m file buffer w toRead p printed → m .stopped p ≡ true → printed ≡ wholeOf m file
+    → Runs m file buffer w toRead p printed → m .stopped p ≡ true → printed ≡ printsFor m file
 
 -- ---- what a program does in turn: pieces of a file
 
@@ -122,4 +122,4 @@ pub record Running (m : Machine) (buffer : List ℕ) (w : Window) (p : m .State)
 pub record PrintedWhole (m : Machine) (out : List ℕ) (at : ℕ) : Type 0 where
   pub read : List ℕ
   pub written : List ℕ
-  pub whole : written ++ take at out ≡ wholeOf m read
+  pub whole : written ++ take at out ≡ printsFor m read

@@ -124,7 +124,7 @@ fn replay_open(fd: i32, name: &[u8]) {
 fn replay_named() {
     let mut name = io::buffer();
     let size = os::arg(1, &mut name);
-    let fd = window::opened(&name[..size], b"FILE");
+    let fd = window::open_file(&name[..size], b"FILE");
     if fd < 0 {
         return;
     }

@@ -18,7 +18,7 @@ use Rattle.calls.specs.declared.Answer.{Answer}
 use Rattle.calls.specs.Calls.{refusal, outcomeOf, replyBytes, calledWith, Leaves, leaves, made}
 use Rattle.table.specs.Table.{mostRecords, badSlot, recordAt, LeftAt, leavesAt, storedAt, madeAt}
 use Rattle.text.specs.Text.{PutAt}
-use Rattle.trace.specs.Record.{sizeOf, bytesIn}
+use Rattle.trace.specs.Record.{sizeOf, recordBytes}
 use Rattle.trace.specs.Call.{room, callOf, madeBy, madeOn}
 use Rattle.trace.specs.declared.Record.{Record}
 use Rattle.trace.specs.declared.Next.{Next}
@@ -88,7 +88,7 @@ turnedTo c used count stopped at = record { «record» = c; used = used; count =
 module _ (p : Progress) (r : Record) (c : Connection) (count : ℕ) (holds : Holds p (Whole r) c count) (rest lent out : List ℕ)
     (room-lent : length lent ≡ room) where
   abbrev bytes : List ℕ
-  bytes = bytesIn rest r
+  bytes = recordBytes rest r
 
   any : (madeOn (p .table) r bytes lent .answer ≡ madeOn (p .table) r bytes anyOut .answer) × (madeOn (p .table) r bytes lent .table ≡ madeOn (p .table) r bytes anyOut .table)
   any = whatever-out-holds (p .table) r bytes lent room-lent

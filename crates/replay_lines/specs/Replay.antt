@@ -8,8 +8,8 @@ use lib.ListN.{length, replicate}
 use Rattle.connection.specs.declared.Connection.{Connection}
 use Rattle.connection.specs.Connection.{allZero}
 use Rattle.table.specs.Table.{mostRecords}
-use Rattle.pieces.specs.Machine.{Turn, Machine, wholeOf}
-use Rattle.trace.specs.Record.{recordOf, sizeOf, bytesIn, mostRecord}
+use Rattle.pieces.specs.Machine.{Turn, Machine, printsFor}
+use Rattle.trace.specs.Record.{recordOf, sizeOf, recordBytes, mostRecord}
 use Rattle.trace.specs.Call.{room, madeOn}
 use Rattle.trace.specs.declared.Record.{Record}
 use Rattle.trace.specs.declared.Next.{Next}
@@ -52,7 +52,7 @@ replayed p r bytes =
 abbrev pub turnOn : Progress → Next → List ℕ → Turn Progress
 turnOn p End rest = stops p (endOf (p .count))
 turnOn p Bad rest = stops p (badOf (p .count))
-turnOn p (Whole r) rest = replayed p r (bytesIn rest r)
+turnOn p (Whole r) rest = replayed p r (recordBytes rest r)
 
 -- the turn on the bytes that are left of a trace
 abbrev pub turnOf : Progress → List ℕ → Turn Progress
@@ -73,4 +73,4 @@ replay =
 
 -- what the replay prints for a trace
 abbrev pub replayOf : List ℕ → List ℕ
-replayOf trace = wholeOf replay trace
+replayOf trace = printsFor replay trace

@@ -147,7 +147,7 @@ fn asked() -> Kind {
 fn run_named(kind: Kind) {
     let mut name = io::buffer();
     let size = os::arg(2, &mut name);
-    let fd = window::opened(&name[..size], b"FILE");
+    let fd = window::open_file(&name[..size], b"FILE");
     if fd < 0 {
         return;
     }

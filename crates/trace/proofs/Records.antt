@@ -13,7 +13,7 @@ use lib.Seq.{take-append-le, drop-append-le}
 use Rattle.rules.specs.Rows.{when_answer_else_}
 use Rattle.field.specs.Field.{fieldOf}
 use Rattle.field.proofs.Field.{field-same}
-use Rattle.trace.specs.Record.{fieldsAt, fieldsSize, sizeOf, bytesIn, mostLength, mostRecord, wrongMark, unknownKind, lengthOver, badFields, cutRecord, recordOf}
+use Rattle.trace.specs.Record.{fieldsAt, fieldsSize, sizeOf, recordBytes, mostRecordBytes, mostRecord, wrongMark, unknownKind, lengthOver, badFields, cutRecord, recordOf}
 use Rattle.trace.specs.declared.Record.{Record}
 use Rattle.trace.specs.declared.Next.the-variants.{End, Bad, Whole}
 
@@ -85,9 +85,9 @@ module _ (s rest : List ℕ) where
     same-faults : (r : Record) → isBad (s ++ rest) r ≡ isBad s r
     unfolding lengthOver cutRecord
     same-faults r =
-        after-fault (wrongMark r || unknownKind r) (ltb mostLength (r .length)) (ltb (length (s ++ rest)) (sizeOf r)) (ltb (length s) (sizeOf r))
+        after-fault (wrongMark r || unknownKind r) (ltb mostRecordBytes (r .length)) (ltb (length (s ++ rest)) (sizeOf r)) (ltb (length s) (sizeOf r))
         (λ e.
-        let few = ltb-false mostLength (r .length) e in
+        let few = ltb-false mostRecordBytes (r .length) e in
         le-ltb (length (s ++ rest)) (sizeOf r) (omega (arith, length-append s rest)) ∙ sym (le-ltb (length s) (sizeOf r) (omega arith)))
 
     pub reads-no-more : recordOf (s ++ rest) ≡ recordOf s
@@ -100,7 +100,7 @@ module _ (s rest : List ℕ) where
         ∙ sym (by-fault s some (isBad s (fieldsAt s)) refl)
 
   -- nor are they a whole record's bytes
-  pub same-bytes : (r : Record) → sizeOf r ≤ length s → bytesIn (s ++ rest) r ≡ bytesIn s r
+  pub same-bytes : (r : Record) → sizeOf r ≤ length s → recordBytes (s ++ rest) r ≡ recordBytes s r
   same-bytes r h =
       ap (take (r .length)) (drop-append-le fieldsSize s rest (omega arith))
       ∙ take-append-le (r .length) (drop fieldsSize s) rest (omega (arith, length-drop fieldsSize s))

@@ -38,15 +38,15 @@ abbrev pub sizeOf : Record → ℕ
 sizeOf r = fieldsSize + r .length
 
 -- its bytes
-abbrev pub bytesIn : List ℕ → Record → List ℕ
-bytesIn s r = take (r .length) (drop fieldsSize s)
+abbrev pub recordBytes : List ℕ → Record → List ℕ
+recordBytes s r = take (r .length) (drop fieldsSize s)
 
 -- TRACE-10: the most bytes behind a record's fields, and the most of a whole record:
-abbrev pub mostLength : ℕ
-mostLength = 1000
+abbrev pub mostRecordBytes : ℕ
+mostRecordBytes = 1000
 
 abbrev pub mostRecord : ℕ
-mostRecord = fieldsSize + mostLength
+mostRecord = fieldsSize + mostRecordBytes
 
 -- TRACE-1: the mark
 abbrev pub mark : ℕ
@@ -78,7 +78,7 @@ unknownKind r = (r .kind) outside beginKind to closeKind
 
 -- TRACE-10
 unfoldable pub lengthOver : Record → Bool
-lengthOver r = ltb mostLength (r .length)
+lengthOver r = ltb mostRecordBytes (r .length)
 
 -- TRACE-8, TRACE-9, TRACE-10: its fields alone show that it is bad
 abbrev pub badFields : Record → Bool

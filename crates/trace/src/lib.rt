@@ -3,7 +3,7 @@ ghost use mathlib.Core.Path.{_≡_};
 ghost use Prim.Native.Nat.{_≤_};
 ghost use lib.ListN.{length};
 ghost use Rattle.calls.specs.Calls.{leaves};
-ghost use Rattle.trace.specs.Record.{fieldsAt, fieldsSize, sizeOf, bytesIn, badFields, recordOf};
+ghost use Rattle.trace.specs.Record.{fieldsAt, fieldsSize, sizeOf, recordBytes, badFields, recordOf};
 ghost use Rattle.trace.specs.Call.{givenIn, callOf, madeBy};
 use calls::Call;
 use calls::Called;
@@ -17,10 +17,10 @@ use connection::Settings;
 pub const FIELDS_SIZE: usize = 10;
 
 // The most bytes behind them: TRACE-10.
-const MOST_LENGTH: u16 = 1000;
+const MOST_RECORD_BYTES: u16 = 1000;
 
 // The most bytes of a record, with those of its fields: a window with fewer may cut it.
-pub const MOST_RECORD: usize = FIELDS_SIZE + MOST_LENGTH as usize;
+pub const MOST_RECORD: usize = FIELDS_SIZE + MOST_RECORD_BYTES as usize;
 
 const MARK: u16 = 0x5232;
 
@@ -87,7 +87,7 @@ fn bad_fields(r: Record) -> bool
     if CLOSE < r.kind {
         return true;
     }
-    MOST_LENGTH < r.length
+    MOST_RECORD_BYTES < r.length
 }
 
 // What stands first in the bytes that are left of a trace.
@@ -150,7 +150,7 @@ pub fn call_of(kind: u8, bytes: &[u8]) -> Call
 // The call of a record that stands first, on its slot's record.
 pub fn made_by(c: Connection, r: Record, s: &[u8], lent: &mut [u8]) -> Called
     requires { ⌜ sizeOf r ≤ length (now s) ⌝ }
-    ensures { λ h. ⌜ leaves h (now (lent .exit)) ≡ madeBy c r (bytesIn (now (s .entry)) r) (now (lent .entry)) ⌝ }
+    ensures { λ h. ⌜ leaves h (now (lent .exit)) ≡ madeBy c r (recordBytes (now (s .entry)) r) (now (lent .entry)) ⌝ }
 {
     let at = r.now;
     let bytes = &s[FIELDS_SIZE..FIELDS_SIZE + r.length as usize];

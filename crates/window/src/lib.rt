@@ -201,7 +201,7 @@ fn fail(name: &[u8], word: &[u8]) {
 }
 
 // Opens the file that an argument names, just after the argument was read; or says why it can't, and answers a number below 0.
-pub fn opened(name: &[u8], word: &[u8]) -> i32 {
+pub fn open_file(name: &[u8], word: &[u8]) -> i32 {
     if os::errno() != 0 {
         fail(name, word);
         return -1;

@@ -22,7 +22,7 @@ use Rattle.calls.specs.Calls.{startHeader, bad, closeRefusal, tickRefusal, rece
 use Rattle.promises.specs.Promises.{deliversTo}
 use Rattle.true_age.specs.Clocks.{InBand, countOf}
 use Rattle.true_age.specs.History.{Ours, JudgedBytes, newest, earlier, begun}
-use Rattle.worked_histories.specs.Worlds.{StaysInBand, Runs, arrivals, worldOf, initiators, responders}
+use Rattle.worked_histories.specs.Worlds.{StaysInBand, DoesNotRunBack, arrivals, worldOf, initiators, responders}
 use Rattle.worked_histories.specs.Histories.{room}
 use Rattle.worked_histories.specs.SetUp.{est, atInitiator, ourStart}
 use Rattle.worked_histories.specs.Initiator.{settings200}
@@ -42,7 +42,7 @@ no-drift arrived judged =
       under = λ t h _. at-most t (responders t) 850 0 (omega arith);
     }
 
-quick-runs : Runs quickPeers
+quick-runs : DoesNotRunBack quickPeers
 quick-runs = gaining-runs 1000 1020 (λ t. t - 870) (λ t u h. omega arith)
 
 -- all 20 ticks are past from 1030 on
@@ -60,7 +60,7 @@ quick-band judged =
     under : (t : ℕ) → 1030 ≤ t → t + 0 ≤ 850 + (t - 870 + (t - 1000 - (t - 1020)))
     under t h = omega arith
 
-pub drifting-runs : Runs driftingPeers
+pub drifting-runs : DoesNotRunBack driftingPeers
 drifting-runs = gaining-runs 2000 3000 responders responders-run
 
 -- up to 2000 they do not drift

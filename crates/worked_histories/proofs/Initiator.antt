@@ -18,7 +18,7 @@ use Rattle.peer_faults.specs.Faults.{expectationOf, numberJudged, notAhead, bey
 use Rattle.what_follows.specs.Follows.{answ1Taken, estTaken, dataTaken, messageTaken, raised, openFollowsOf, followsOf, stepOf}
 use Rattle.calls.specs.Calls.{bad, closeRefusal, tickRefusal, receiveRefusal, sendRefusal, beginRefusal, timed, expired, receiveOutcome, tickOutcome, sendOutcome, beginOutcome, initiator}
 use Rattle.true_age.specs.History.{newest, earlier}
-use Rattle.worked_histories.specs.Worlds.{StaysInBand, Runs, responders, past}
+use Rattle.worked_histories.specs.Worlds.{StaysInBand, DoesNotRunBack, responders, past}
 use Rattle.worked_histories.specs.Histories.{room}
 use Rattle.worked_histories.specs.SetUp.{atInitiator, ourStart}
 use Rattle.worked_histories.specs.Initiator.{peers, settings, freshMessage, gapMessage, lateMessage, futureMessage, world, afterSend, afterFresh, afterGap, afterLate, afterTick, afterFuture, InitiatorMeets, slowPeers, settings200, LateReached}
@@ -26,7 +26,7 @@ use Rattle.worked_histories.proofs.Worlds.{past-most, responders-run, g
 use Rattle.worked_histories.proofs.Histories.{Reaches, sent, ticked, goes-on, judges}
 use Rattle.worked_histories.proofs.SetUp.{initiator-set-up}
 
-runs : Runs peers
+runs : DoesNotRunBack peers
 runs = gaining-runs 2000 2060 responders responders-run
 
 band : StaysInBand (world runs) 1000 60
@@ -81,7 +81,7 @@ initiator-meets =
 
 -- ---- the peer's clock stands still
 
-pub slow-runs : Runs slowPeers
+pub slow-runs : DoesNotRunBack slowPeers
 slow-runs = responders-stand 1120 1180
 
 pub slow-band : StaysInBand (atInitiator slowPeers slow-runs) 1000 60

@@ -21,7 +21,7 @@ use Rattle.calls.specs.Calls.{startHeader, bad, closeRefusal, tickRefusal, rece
 use Rattle.promises.specs.Promises.{deliversTo}
 use Rattle.true_age.specs.Clocks.{countOf}
 use Rattle.true_age.specs.History.{Ours, newest, earlier, begun}
-use Rattle.worked_histories.specs.Worlds.{StaysInBand, Runs, arrivals, responders, past, standingBefore}
+use Rattle.worked_histories.specs.Worlds.{StaysInBand, DoesNotRunBack, arrivals, responders, past, standingBefore}
 use Rattle.worked_histories.specs.Histories.{room}
 use Rattle.worked_histories.specs.SetUp.{answ1, est, atInitiator, ourStart}
 use Rattle.worked_histories.specs.Initiator.{slowPeers, settings200}
@@ -43,7 +43,7 @@ standing-before-band judged =
       under = λ t h _. at-most t (standingBefore t) 850 0 (omega arith);
     }
 
-now-runs : Runs lagging
+now-runs : DoesNotRunBack lagging
 now-runs = initiators-stand 1150 1200
 
 called-band : StaysInBand (asCalled now-runs responders-run) 1000 50

@@ -17,7 +17,7 @@ use Rattle.peer_faults.specs.Faults.{expectationOf, numberJudged, notAhead, bey
 use Rattle.what_follows.specs.Follows.{startTaken, answ2Taken, endTaken, dataTaken, messageTaken, raised, openFollowsOf, followsOf, stepOf}
 use Rattle.calls.specs.Calls.{bad, closeRefusal, tickRefusal, receiveRefusal, beginRefusal, timed, expired, receiveOutcome, beginOutcome, responder}
 use Rattle.true_age.specs.History.{newest, earlier}
-use Rattle.worked_histories.specs.Worlds.{StaysInBand, Runs, initiators, responders, past}
+use Rattle.worked_histories.specs.Worlds.{StaysInBand, DoesNotRunBack, initiators, responders, past}
 use Rattle.worked_histories.specs.SetUp.{atResponder, ourAnsw1}
 use Rattle.worked_histories.specs.Initiator.{settings200}
 use Rattle.worked_histories.specs.Responder.{peers, settings, freshMessage, gapMessage, lateMessage, futureMessage, world, afterEnd, afterFresh, afterGap, afterLate, afterFuture, ResponderMeets, slowPeers, ResponderLateReached}
@@ -25,7 +25,7 @@ use Rattle.worked_histories.proofs.Worlds.{past-most, responders-run, i
 use Rattle.worked_histories.proofs.Histories.{Reaches, goes-on, judges}
 use Rattle.worked_histories.proofs.SetUp.{responder-set-up}
 
-runs : Runs peers
+runs : DoesNotRunBack peers
 runs = gaining-runs 2000 2060 initiators (λ t u h. h)
 
 band : StaysInBand (world responders-run runs) 1000 60
@@ -78,7 +78,7 @@ responder-meets =
 
 -- ---- the peer's clock stands still
 
-slow-runs : Runs slowPeers
+slow-runs : DoesNotRunBack slowPeers
 slow-runs = initiators-stand 1145 1205
 
 slow-band : StaysInBand (atResponder slowPeers responders-run slow-runs) 1000 60

@@ -15,12 +15,12 @@ use Rattle.connection.specs.Connection.{allZero}
 use Rattle.calls.specs.Calls.{beginOutcome, initiator, responder, given}
 use Rattle.true_age.specs.Clocks.{countOf}
 use Rattle.true_age.specs.History.{Written, History, begun}
-use Rattle.worked_histories.specs.Worlds.{Runs, responders}
+use Rattle.worked_histories.specs.Worlds.{DoesNotRunBack, responders}
 use Rattle.worked_histories.specs.Histories.{room}
 use Rattle.worked_histories.specs.SetUp.{answ1, est, start, answ2, end, atInitiator, ourStart, initiatorAwaits2, initiatorOpen, atResponder, ourAnsw1, responderAwaits3, responderOpen}
 use Rattle.worked_histories.proofs.Histories.{type-1, type-4-on, received}
 
-module _ (peers : ℕ → ℕ) (runs : Runs peers) where
+module _ (peers : ℕ → ℕ) (runs : DoesNotRunBack peers) where
   pub initiator-set-up : peers 1020 ≡ 170 → peers 1050 ≡ 200 → peers 1095 ≡ 245
       → (settings : Settings) → beginOutcome allZero (given initiator settings 7 50) (countOf 1000) room .number ≡ 0
       → Written (atInitiator peers runs) 0 (ourStart peers runs) (initiatorAwaits2 peers runs settings .log)
@@ -53,7 +53,7 @@ module _ (peers : ℕ → ℕ) (runs : Runs peers) where
         reports = type-4-on offsetEst (lit< tt);
       })
 
-module _ (peers : ℕ → ℕ) (ours-runs : Runs responders) (runs : Runs peers) where
+module _ (peers : ℕ → ℕ) (ours-runs : DoesNotRunBack responders) (runs : DoesNotRunBack peers) where
   pub responder-set-up : peers 1000 ≡ 1000 → peers 1080 ≡ 1080 → peers 1100 ≡ 1100 → peers 1130 ≡ 1130
       → (settings : Settings) → beginOutcome allZero (given responder settings 30 50) (countOf 50) room .number ≡ 0
       → Written (atResponder peers ours-runs runs) 0 (ourAnsw1 peers ours-runs runs) (responderAwaits3 peers ours-runs runs settings .log)

@@ -17,17 +17,17 @@ use Rattle.peer_faults.specs.Faults.{expectationOf, numberJudged, notAhead, bey
 use Rattle.what_follows.specs.Follows.{answ1Taken, estTaken, dataTaken, messageTaken, raised, openFollowsOf, followsOf, stepOf}
 use Rattle.calls.specs.Calls.{bad, closeRefusal, tickRefusal, receiveRefusal, beginRefusal, timed, expired, receiveOutcome, beginOutcome, initiator}
 use Rattle.true_age.specs.History.{newest, earlier, begun}
-use Rattle.worked_histories.specs.Worlds.{StaysInBand, Runs}
+use Rattle.worked_histories.specs.Worlds.{StaysInBand, DoesNotRunBack}
 use Rattle.worked_histories.specs.Histories.{room}
 use Rattle.worked_histories.specs.Initiator.{settings200}
 use Rattle.worked_histories.specs.Wrap.{ours, peers, answ1, est, freshMessage, world, ourStart, afterEst, AcrossTheWrap}
 use Rattle.worked_histories.proofs.Worlds.{at-least, at-most}
 use Rattle.worked_histories.proofs.Histories.{type-4-on, Reaches, received, goes-on, judges}
 
-ours-runs : Runs ours
+ours-runs : DoesNotRunBack ours
 ours-runs t u h = omega arith
 
-runs : Runs peers
+runs : DoesNotRunBack peers
 runs t u h = omega arith
 
 band : StaysInBand (world ours-runs runs) 0 0

@@ -17,7 +17,7 @@ use Rattle.table.specs.Table.{recordAt}
 use Rattle.true_age.specs.Clocks.{World}
 use Rattle.true_age.specs.History.{Ours}
 use Rattle.age_at_table.specs.Run.{whatItLeaves, Run, none, called, Since}
-use Rattle.worked_histories.specs.Worlds.{Runs, StaysInBand, responders}
+use Rattle.worked_histories.specs.Worlds.{DoesNotRunBack, StaysInBand, responders}
 use Rattle.worked_histories.specs.SetUp.{answ1, est, toInitiator, atInitiator}
 use Rattle.worked_histories.specs.Initiator.{settings200}
 
@@ -40,7 +40,7 @@ asResponder = Call.Begin (given responder settings200 9 50)
 abbrev pub message : List ℕ
 message = toInitiator 22 0x01 0x2E
 
-module _ (runs : Runs responders) where
+module _ (runs : DoesNotRunBack responders) where
   -- the initiator's world, in which the clocks do not drift
   abbrev pub world : World
   world = atInitiator responders runs
@@ -99,7 +99,7 @@ module _ (runs : Runs responders) where
 
 -- DEMAND-3: the premises are met on slot 1, and what the host gets of the message
 pub record TableMeets : Type 0 where
-  pub runs : Runs responders
+  pub runs : DoesNotRunBack responders
   pub band : StaysInBand (world runs) 1000 0
   pub numbers-are : numbers runs ≡ 0 ∷ 102 ∷ 0 ∷ 101 ∷ 0 ∷ 103 ∷ 0 ∷ []
   pub log : List (Ours (world runs))

@@ -10,7 +10,7 @@ use Rattle.connection.specs.declared.Connection.{Connection}
 use Rattle.calls.specs.Calls.{initiator}
 use Rattle.true_age.specs.Clocks.{World, InBand, countOf}
 use Rattle.true_age.specs.History.{History}
-use Rattle.worked_histories.specs.Worlds.{Runs, StaysInBand, arrivals, worldOf, initiators, responders, gaining}
+use Rattle.worked_histories.specs.Worlds.{DoesNotRunBack, StaysInBand, arrivals, worldOf, initiators, responders, gaining}
 use Rattle.worked_histories.specs.Histories.{
   Place,
   begin,
@@ -47,7 +47,7 @@ anothersEst =
     ∷ 0x01 ∷ 0x00 ∷ 0x00 ∷ 0x03 ∷ 0xD4
     ∷ 0x01 ∷ 0x00 ∷ 0x00 ∷ 0x03 ∷ 0xAC ∷ []
 
-module _ (runs : Runs responders) where
+module _ (runs : DoesNotRunBack responders) where
   -- the record of that neighbour's slot: min 930
   abbrev pub anothersOpen : Connection
   anothersOpen =
@@ -67,7 +67,7 @@ mixedNumbers = truly 250 computed pos 180 answers 0 between pos 280 and pos 280
 
 -- a message truly 250 ticks old is handed up, where 170 may pass
 pub record AnotherRecord : Type 0 where
-  pub runs : Runs responders
+  pub runs : DoesNotRunBack responders
   pub band : StaysInBand (atInitiator responders runs) 1000 0
   -- all is as supposed of a receive on the record that the call before left, and the answer is 205
   pub message : Judges (atInitiator responders runs) 1000 1000 initiator settings200 (initiatorOpen responders runs settings200) 1150 1400
@@ -98,7 +98,7 @@ quickNumbers = truly 170 computed pos 200 answers 0 between pos 220 and pos 220
 
 -- a message truly 170 ticks old is handed up, where 150 may pass
 pub record BegunAfter : Type 0 where
-  pub runs : Runs quickPeers
+  pub runs : DoesNotRunBack quickPeers
   -- the set-up is said to have begun at 1030: from there on the clocks do not drift, and every message was sent
   pub band : StaysInBand (atInitiator quickPeers runs) 1030 0
   pub answ1-since : atInitiator quickPeers runs .early 1030 1050
@@ -126,7 +126,7 @@ beforeNumbers = truly 0 computed negℤ (pos 1970) answers 206 between pos 30 an
 
 -- what is sent at 3000 is taken at 2000, before the clocks drift
 pub record TakenBeforeSent : Type 0 where
-  pub runs : Runs driftingPeers
+  pub runs : DoesNotRunBack driftingPeers
   pub band : InBand (atInitiator driftingPeers runs) 1000 2000 0
   pub history : History (atInitiator driftingPeers runs) 1000 initiator settings200
       (initiatorOpen driftingPeers runs settings200 .log) 1110 (initiatorOpen driftingPeers runs settings200 .c)
@@ -143,15 +143,15 @@ pub record TakenBeforeSent : Type 0 where
 
 module _ (first : ℕ) where
   -- the world as an OffsetAnsw1 reports it: OffsetStart arrives at this moment
-  abbrev pub asReported : Runs responders → World
+  abbrev pub asReported : DoesNotRunBack responders → World
   asReported runs = worldOf initiators responders (arrivals first 1090 1120) (λ t u h. h) runs
 
   -- the begin in it
-  abbrev pub beginAsReported : (runs : Runs responders) → Place (asReported runs)
+  abbrev pub beginAsReported : (runs : DoesNotRunBack responders) → Place (asReported runs)
   beginAsReported runs = begin (asReported runs) initiator settings200 7 50 1000
 
   -- open, with that OffsetAnsw1
-  abbrev pub openAsReported : List ℕ → (runs : Runs responders) → Place (asReported runs)
+  abbrev pub openAsReported : List ℕ → (runs : DoesNotRunBack responders) → Place (asReported runs)
   openAsReported reports runs = receive (asReported runs) (receive (asReported runs) (beginAsReported runs) 1080 reports) 1110 est
 
 -- OffsetAnsw1 as in the set-up, but it reports that OffsetStart arrived at 155
@@ -177,7 +177,7 @@ onThisNumbers = truly 185 computed pos 200 answers 0 between pos 215 and pos 215
 -- The slot was begun, closed and begun again in one tick, so that two connections wrote the same OffsetStart: the first one's arrived at
 -- 1005, this one's at 1020. A message truly 185 ticks old is handed up, where 170 may pass.
 pub record ReportOfAnother : Type 0 where
-  pub runs : Runs responders
+  pub runs : DoesNotRunBack responders
   pub band : StaysInBand (asReported 1005 runs) 1000 0
   -- the first one's arrival is reported truthfully, and its stamp is echoed
   pub reported : messageHeaderOf earliersAnsw1 .arrival ≡ countOf (responders 1005)

@@ -6,7 +6,7 @@ use lib.ListN.{replicate}
 use Rattle.connection.specs.declared.Settings.{Settings}
 use Rattle.calls.specs.Calls.{initiator}
 use Rattle.true_age.specs.Clocks.{World}
-use Rattle.worked_histories.specs.Worlds.{Runs, StaysInBand, responders, gaining, standing}
+use Rattle.worked_histories.specs.Worlds.{DoesNotRunBack, StaysInBand, responders, gaining, standing}
 use Rattle.worked_histories.specs.Histories.{Place, receive, send, tick, Common, Judges, truly_computed_answers_between_and_}
 use Rattle.worked_histories.specs.SetUp.{toInitiator, atInitiator, initiatorOpen}
 
@@ -43,7 +43,7 @@ abbrev pub oldestMessage : List ℕ
 oldestMessage = toInitiator 27 0x05 0x82
 
 -- one call after another:
-module _ (runs : Runs peers) where
+module _ (runs : DoesNotRunBack peers) where
   abbrev pub world : World
   world = atInitiator peers runs
 
@@ -67,7 +67,7 @@ module _ (runs : Runs peers) where
 
 -- DEMAND-3: each of these messages meets the premises
 pub record InitiatorMeets : Type 0 where
-  pub runs : Runs peers
+  pub runs : DoesNotRunBack peers
   pub band : StaysInBand (world runs) 1000 60
   -- an age of T_max is delivered
   pub fresh : Judges (world runs) 1000 1000 initiator settings (afterSend runs) 1152 1172 freshMessage common
@@ -105,7 +105,7 @@ slowMessage = toInitiator 22 0x01 0x22
 
 -- DEMAND-3: the upper bound is reached
 pub record LateReached : Type 0 where
-  pub runs : Runs slowPeers
+  pub runs : DoesNotRunBack slowPeers
   pub band : StaysInBand (atInitiator slowPeers runs) 1000 60
   -- true age + E + J + d is T_max + 1, and the age is its most
   pub late : Judges (atInitiator slowPeers runs) 1000 1000 initiator settings200 (initiatorOpen slowPeers runs settings200) 1200 1311

@@ -9,7 +9,7 @@ use Rattle.message.specs.Read.{messageHeaderOf}
 use Rattle.calls.specs.Calls.{initiator}
 use Rattle.true_age.specs.Clocks.{World, InBand, countOf}
 use Rattle.true_age.specs.Claim.{trueAge}
-use Rattle.worked_histories.specs.Worlds.{Runs, StaysInBand, arrivals, worldOf, initiators, responders, standing, standingBefore}
+use Rattle.worked_histories.specs.Worlds.{DoesNotRunBack, StaysInBand, arrivals, worldOf, initiators, responders, standing, standingBefore}
 use Rattle.worked_histories.specs.Histories.{
   Place,
   begin,
@@ -40,7 +40,7 @@ use Rattle.worked_histories.specs.CallsMissed.{
 -- ---- true age + E + J + d is under 2^31
 
 -- the difference has risen by the whole band; ticks keep our clock from going back:
-module _ (runs : Runs slowPeers) where
+module _ (runs : DoesNotRunBack slowPeers) where
   abbrev pub afterTick : Place (atInitiator slowPeers runs)
   afterTick = tick (atInitiator slowPeers runs) (initiatorOpen slowPeers runs settings200) 2000000000
 
@@ -52,7 +52,7 @@ atNumbers = truly 2147483558 computed negℤ (pos 2147483648) answers 206 betwee
 
 -- DEMAND-3: at 2^31 the age is -2^31, and the answer 206
 pub record AtTheBound : Type 0 where
-  pub runs : Runs slowPeers
+  pub runs : DoesNotRunBack slowPeers
   pub band : StaysInBand (atInitiator slowPeers runs) 1000 60
   pub message : Judges (atInitiator slowPeers runs) 1000 1000 initiator settings200 (afterTick runs) 1200 2147484758
       slowMessage band60 atNumbers
@@ -65,7 +65,7 @@ pastNumbers = truly 4294967236 computed pos 30 answers 0 between pos 4294967206 
 
 -- far past it a message truly 2^32 - 60 ticks old is handed up as fresh
 pub record PastTheBound : Type 0 where
-  pub runs : Runs slowPeers
+  pub runs : DoesNotRunBack slowPeers
   pub band : StaysInBand (atInitiator slowPeers runs) 1000 60
   pub message : Judges (atInitiator slowPeers runs) 1000 1000 initiator settings200 (afterTicks runs) 1200 4294968436
       slowMessage band60 pastNumbers
@@ -79,7 +79,7 @@ driftedNumbers = truly 1000 computed pos 30 answers 0 between pos 970 and pos 10
 
 -- a message truly 1,000 ticks old is handed up as fresh, where a band of J 60 lets 230 pass
 pub record OutsideTheBand : Type 0 where
-  pub runs : Runs driftingPeers
+  pub runs : DoesNotRunBack driftingPeers
   pub band-missed : (j : ℕ) → j < 1000 → ¬ (InBand (atInitiator driftingPeers runs) 1000 4000 j)
   pub message : Judges (atInitiator driftingPeers runs) 1000 1000 initiator settings200
       (initiatorOpen driftingPeers runs settings200) 3000 4000 driftedMessage band60 driftedNumbers
@@ -104,7 +104,7 @@ earlierNumbers = truly 1120 computed pos 150 answers 0 between pos 1150 and pos 
 
 -- the peer's clock stood still until the set-up began: a message truly 1,120 ticks old is handed up as fresh
 pub record SentBefore : Type 0 where
-  pub runs : Runs standingBefore
+  pub runs : DoesNotRunBack standingBefore
   pub band : StaysInBand (atInitiator standingBefore runs) 1000 0
   -- all else is as supposed of a message sent since 0
   pub message : Judges (atInitiator standingBefore runs) 1000 0 initiator settings200 (initiatorOpen standingBefore runs settings200) 0 1120
@@ -127,7 +127,7 @@ sentNumbers = truly 910 computed pos 60 answers 0 between pos 940 and pos 940
 
 -- a message sent at 1120, truly 910 ticks old, is handed up as fresh
 pub record FalseStamp : Type 0 where
-  pub runs : Runs responders
+  pub runs : DoesNotRunBack responders
   pub band : StaysInBand (atInitiator responders runs) 1000 0
   -- all is as supposed of a message sent at 2000
   pub message : Judges (atInitiator responders runs) 1000 1000 initiator settings200 (initiatorOpen responders runs settings200) 2000 2030
@@ -164,7 +164,7 @@ trueNumbers = truly 190 computed pos 200 answers 0 between pos 220 and pos 220
 
 -- OffsetStart truly arrives at 1020, so that d is 20: a message truly 190 ticks old is handed up, where 170 may pass
 pub record FalseArrival : Type 0 where
-  pub runs : Runs responders
+  pub runs : DoesNotRunBack responders
   pub band : StaysInBand (asReported 1000 runs) 1000 0
   -- all is as supposed in the world as reported, which differs from the true one in this arrival alone
   pub message : Judges (asReported 1000 runs) 1000 1000 initiator settings200 (openAsReported 1000 falseAnsw1 runs) 1200 1390
@@ -181,7 +181,7 @@ pub record FalseArrival : Type 0 where
 abbrev pub lagging : ℕ → ℕ
 lagging = standing 1150 1200 initiators
 
-module _ (now-runs : Runs lagging) (runs : Runs responders) where
+module _ (now-runs : DoesNotRunBack lagging) (runs : DoesNotRunBack responders) where
   -- the world as the calls get it, and the set-up in it:
   abbrev pub asCalled : World
   asCalled = worldOf lagging responders (arrivals 1020 1090 1120) now-runs runs
@@ -206,8 +206,8 @@ ourNumbers = truly 220 computed pos 200 answers 0 between pos 250 and pos 250
 
 -- a message truly 220 ticks old is handed up, where 170 may pass
 pub record FalseNow : Type 0 where
-  pub now-runs : Runs lagging
-  pub runs : Runs responders
+  pub now-runs : DoesNotRunBack lagging
+  pub runs : DoesNotRunBack responders
   pub band : StaysInBand (atInitiator responders runs) 1000 0
   -- all is as supposed in the world as the calls get it, with J 50
   pub called-band : StaysInBand (asCalled now-runs runs) 1000 50

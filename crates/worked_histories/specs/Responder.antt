@@ -6,7 +6,7 @@ use lib.IntN.{pos, negℤ}
 use Rattle.connection.specs.declared.Settings.{Settings}
 use Rattle.calls.specs.Calls.{responder}
 use Rattle.true_age.specs.Clocks.{World}
-use Rattle.worked_histories.specs.Worlds.{Runs, StaysInBand, initiators, responders, gaining, standing}
+use Rattle.worked_histories.specs.Worlds.{DoesNotRunBack, StaysInBand, initiators, responders, gaining, standing}
 use Rattle.worked_histories.specs.Histories.{Place, receive, Common, Judges, truly_computed_answers_between_and_}
 use Rattle.worked_histories.specs.SetUp.{toResponder, atResponder, responderOpen}
 use Rattle.worked_histories.specs.Initiator.{settings200}
@@ -43,7 +43,7 @@ abbrev pub oldestMessage : List ℕ
 oldestMessage = toResponder 15 0x08 0xD4
 
 -- one call after another:
-module _ (ours-runs : Runs responders) (runs : Runs peers) where
+module _ (ours-runs : DoesNotRunBack responders) (runs : DoesNotRunBack peers) where
   abbrev pub world : World
   world = atResponder peers ours-runs runs
 
@@ -64,8 +64,8 @@ module _ (ours-runs : Runs responders) (runs : Runs peers) where
 
 -- DEMAND-3: each of these messages meets the premises
 pub record ResponderMeets : Type 0 where
-  pub ours-runs : Runs responders
-  pub runs : Runs peers
+  pub ours-runs : DoesNotRunBack responders
+  pub runs : DoesNotRunBack peers
   pub band : StaysInBand (world ours-runs runs) 1000 60
   -- an age of T_max is delivered
   pub fresh : Judges (world ours-runs runs) 1000 1000 responder settings (afterEnd ours-runs runs) 1200 1215 freshMessage common
@@ -95,8 +95,8 @@ slowMessage = toResponder 10 0x04 0xD8
 
 -- DEMAND-3: the upper bound is reached
 pub record ResponderLateReached : Type 0 where
-  pub ours-runs : Runs responders
-  pub runs : Runs slowPeers
+  pub ours-runs : DoesNotRunBack responders
+  pub runs : DoesNotRunBack slowPeers
   pub band : StaysInBand (atResponder slowPeers ours-runs runs) 1000 60
   -- true age + E + J + d is T_max + 1, and the age is its most
   pub late : Judges (atResponder slowPeers ours-runs runs) 1000 1000 responder settings200

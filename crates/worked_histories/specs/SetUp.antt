@@ -7,7 +7,7 @@ use Rattle.connection.specs.declared.Settings.{Settings}
 use Rattle.calls.specs.Calls.{startHeader, initiator, responder}
 use Rattle.true_age.specs.Clocks.{World, countOf}
 use Rattle.true_age.specs.History.{Ours}
-use Rattle.worked_histories.specs.Worlds.{Runs, arrivals, worldOf, initiators, responders}
+use Rattle.worked_histories.specs.Worlds.{DoesNotRunBack, arrivals, worldOf, initiators, responders}
 use Rattle.worked_histories.specs.Histories.{Place, begin, receive}
 
 -- ---- the peer's messages to an initiator
@@ -80,7 +80,7 @@ toResponder number stamp3 stamp4 =
     ∷ 0x55 ∷ []
 
 -- ---- an initiator's set-up, with any peer's clock
-module _ (peers : ℕ → ℕ) (runs : Runs peers) where
+module _ (peers : ℕ → ℕ) (runs : DoesNotRunBack peers) where
   -- OffsetStart arrives 20 ticks later, OffsetAnsw2 10, OffsetEnd 10
   abbrev pub atInitiator : World
   atInitiator = worldOf initiators peers (arrivals 1020 1090 1120) (λ t u h. h) runs
@@ -101,7 +101,7 @@ module _ (peers : ℕ → ℕ) (runs : Runs peers) where
     initiatorOpen = receive atInitiator initiatorAwaits4 1110 est
 
 -- ---- a responder's set-up, with any peer's clock
-module _ (peers : ℕ → ℕ) (ours-runs : Runs responders) (runs : Runs peers) where
+module _ (peers : ℕ → ℕ) (ours-runs : DoesNotRunBack responders) (runs : DoesNotRunBack peers) where
   -- OffsetAnsw1 arrives 30 ticks later, OffsetEst 15
   abbrev pub atResponder : World
   atResponder = worldOf responders peers (arrivals 1080 1125 1125) ours-runs runs

@@ -6,8 +6,8 @@ use Rattle.rules.specs.Rows.{when_answer_else_}
 use Rattle.true_age.specs.Clocks.{World, InBand}
 
 -- a clock that does not run back
-abbrev pub Runs : (ℕ → ℕ) → Type 0
-Runs clock = (t u : ℕ) → t ≤ u → clock t ≤ clock u
+abbrev pub DoesNotRunBack : (ℕ → ℕ) → Type 0
+DoesNotRunBack clock = (t u : ℕ) → t ≤ u → clock t ≤ clock u
 
 -- the moments at which the first, the second and the third message that we write arrive at the peer
 abbrev pub arrivals : ℕ → ℕ → ℕ → ℕ → ℕ
@@ -17,7 +17,7 @@ arrivals first second third n =
     third
 
 -- its moments are numbers
-abbrev pub worldOf : (ours peers arrived : ℕ → ℕ) → Runs ours → Runs peers → World
+abbrev pub worldOf : (ours peers arrived : ℕ → ℕ) → DoesNotRunBack ours → DoesNotRunBack peers → World
 worldOf ours peers arrived ours-runs peers-runs =
     record {
       Moment = ℕ;

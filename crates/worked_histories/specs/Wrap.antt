@@ -5,7 +5,7 @@ use lib.IntN.{pos}
 use Rattle.calls.specs.Calls.{startHeader, initiator}
 use Rattle.true_age.specs.Clocks.{World, countOf}
 use Rattle.true_age.specs.History.{Ours}
-use Rattle.worked_histories.specs.Worlds.{Runs, StaysInBand, arrivals, worldOf}
+use Rattle.worked_histories.specs.Worlds.{DoesNotRunBack, StaysInBand, arrivals, worldOf}
 use Rattle.worked_histories.specs.Histories.{Place, begin, receive, Judges, truly_computed_answers_between_and_}
 use Rattle.worked_histories.specs.Initiator.{settings200, band0}
 
@@ -53,7 +53,7 @@ freshMessage = dataMessage 22 0xFF 0xFF 0xFF 0xF6
 abbrev pub lateMessage : List ℕ
 lateMessage = dataMessage 23 0x00 0x00 0x00 0x64
 
-module _ (ours-runs : Runs ours) (runs : Runs peers) where
+module _ (ours-runs : DoesNotRunBack ours) (runs : DoesNotRunBack peers) where
   -- OffsetStart arrives 20 ticks later, OffsetAnsw2 10, OffsetEnd 10
   abbrev pub world : World
   world = worldOf ours peers (arrivals 20 90 120) ours-runs runs
@@ -74,8 +74,8 @@ module _ (ours-runs : Runs ours) (runs : Runs peers) where
 
 -- DEMAND-3: each of these messages meets the premises
 pub record AcrossTheWrap : Type 0 where
-  pub ours-runs : Runs ours
-  pub runs : Runs peers
+  pub ours-runs : DoesNotRunBack ours
+  pub runs : DoesNotRunBack peers
   pub band : StaysInBand (world ours-runs runs) 0 0
   -- stamp 4294967286, now 880: with J 0 the age is its least and its most
   pub fresh : Judges (world ours-runs runs) 0 0 initiator settings200 (afterEst ours-runs runs) 890 930 freshMessage band0

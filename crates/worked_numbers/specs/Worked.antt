@@ -174,14 +174,14 @@ pub data Row : Type 1 where
   _gives_ : {A : Type 0} → A → A → Row
 
 -- the two are the same
-abbrev pub Holds : Row → Type 0
-Holds (a gives b) = a ≡ b
+abbrev pub RowHolds : Row → Type 0
+RowHolds (a gives b) = a ≡ b
 
 infixr 20 _and_
 -- every row holds
 pub data AllHold : List Row → Type 1 where
   nothing : AllHold []
-  _and_ : {row : Row} {rows : List Row} → Holds row → AllHold rows → AllHold (row ∷ rows)
+  _and_ : {row : Row} {rows : List Row} → RowHolds row → AllHold rows → AllHold (row ∷ rows)
 
 -- OPEN-4: the starred lines, in their order
 abbrev pub starred : List Row
