@@ -9,7 +9,8 @@ use Rattle.message.specs.Read.{messageHeaderOf}
 use Rattle.calls.specs.Calls.{initiator}
 use Rattle.true_age.specs.Clocks.{World, InBand, countOf}
 use Rattle.true_age.specs.Claim.{trueAge}
-use Rattle.worked_histories.specs.Worlds.{DoesNotRunBack, StaysInBand, arrivals, worldOf, initiators, responders, standing, standingBefore}
+use Rattle.worked_histories.specs.Worlds.{DoesNotRunBack, StaysInBand, arrivals, worldOf}
+use Rattle.worked_histories.specs.Worlds.{initiators, responders, standing, standingBefore}
 use Rattle.worked_histories.specs.Histories.{
   Place,
   begin,
