@@ -213,7 +213,7 @@ fn receive_outcome(c: Connection, now: Count, message: &[u8], room: usize) -> Ou
     if expired(c, now) {
         return what_follows::released(207, 0);
     }
-    what_follows::step(c, now, message::parse(message))
+    what_follows::step_of(c, now, message::parse(message))
 }
 
 // WAIT-4.

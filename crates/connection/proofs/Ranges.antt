@@ -5,7 +5,7 @@ use mathlib.Core.Path.{_≡_, refl, subst}
 use mathlib.Core.Bool.{Bool, true, false, _||_}
 use borrow.Author.Tests.{ltb-false}
 use lib.Dec.{T, ltb}
-use Rattle.connection.specs.Connection.{_outside_to_, outOfRange}
+use Rattle.connection.specs.Connection.{_outside_to_, mostN, mostTime, mostLimit, outOfRange}
 use Rattle.connection.specs.declared.Settings.{Settings}
 
 pub or-off : (a b : Bool) → a || b ≡ false → (a ≡ false) × (b ≡ false)
@@ -24,9 +24,9 @@ pub record InRange (s : Settings) : Type 0 where
 pub in-range : (s : Settings) → outOfRange s ≡ false → InRange s
 unfolding outOfRange
 in-range s e =
-    let l = or-off ((s .n) outside 1 to 1000 || (s .«t_max») outside 1 to 60000 || (s .e) outside 0 to (s .«t_max») || (s .«t_start») outside 1 to 60000 || (s .«t_off») outside 0 to 60000) ((s .limit) outside 1 to 255) e in
-    let o = or-off ((s .n) outside 1 to 1000 || (s .«t_max») outside 1 to 60000 || (s .e) outside 0 to (s .«t_max») || (s .«t_start») outside 1 to 60000) ((s .«t_off») outside 0 to 60000) (l .0) in
-    let t = or-off ((s .n) outside 1 to 1000 || (s .«t_max») outside 1 to 60000 || (s .e) outside 0 to (s .«t_max»)) ((s .«t_start») outside 1 to 60000) (o .0) in
-    let x = or-off ((s .n) outside 1 to 1000 || (s .«t_max») outside 1 to 60000) ((s .e) outside 0 to (s .«t_max»)) (t .0) in
-    let m = or-off ((s .n) outside 1 to 1000) ((s .«t_max») outside 1 to 60000) (x .0) in
-    record { n = within (s .n) 1 1000 (m .0) .0; «t_start» = within (s .«t_start») 1 60000 (t .1) .1; limit = within (s .limit) 1 255 (l .1) .0 }
+    let l = or-off ((s .n) outside 1 to mostN || (s .«t_max») outside 1 to mostTime || (s .e) outside 0 to (s .«t_max») || (s .«t_start») outside 1 to mostTime || (s .«t_off») outside 0 to mostTime) ((s .limit) outside 1 to mostLimit) e in
+    let o = or-off ((s .n) outside 1 to mostN || (s .«t_max») outside 1 to mostTime || (s .e) outside 0 to (s .«t_max») || (s .«t_start») outside 1 to mostTime) ((s .«t_off») outside 0 to mostTime) (l .0) in
+    let t = or-off ((s .n) outside 1 to mostN || (s .«t_max») outside 1 to mostTime || (s .e) outside 0 to (s .«t_max»)) ((s .«t_start») outside 1 to mostTime) (o .0) in
+    let x = or-off ((s .n) outside 1 to mostN || (s .«t_max») outside 1 to mostTime) ((s .e) outside 0 to (s .«t_max»)) (t .0) in
+    let m = or-off ((s .n) outside 1 to mostN) ((s .«t_max») outside 1 to mostTime) (x .0) in
+    record { n = within (s .n) 1 mostN (m .0) .0; «t_start» = within (s .«t_start») 1 mostTime (t .1) .1; limit = within (s .limit) 1 mostLimit (l .1) .0 }

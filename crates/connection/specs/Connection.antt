@@ -50,15 +50,27 @@ infix 40 _outside_to_
 unfoldable pub _outside_to_ : ℕ → ℕ → ℕ → Bool
 x outside least to most = ltb x least || ltb most x
 
+-- RANGE-N: the most of N
+abbrev pub mostN : ℕ
+mostN = 1000
+
+-- RANGE-TMAX, RANGE-TSTART, RANGE-TOFF: the most of a time, in ticks
+abbrev pub mostTime : ℕ
+mostTime = 60000
+
+-- RANGE-LIMIT: the most of the error limit
+abbrev pub mostLimit : ℕ
+mostLimit = 255
+
 -- CALL-104: a setting lies outside its range; RANGE-N, RANGE-TMAX, RANGE-E, RANGE-TSTART, RANGE-TOFF, RANGE-LIMIT, a line each
 unfoldable pub outOfRange : Settings → Bool
 outOfRange s =
-    (s .n) outside 1 to 1000
-    || (s .«t_max») outside 1 to 60000
+    (s .n) outside 1 to mostN
+    || (s .«t_max») outside 1 to mostTime
     || (s .e) outside 0 to (s .«t_max»)
-    || (s .«t_start») outside 1 to 60000
-    || (s .«t_off») outside 0 to 60000
-    || (s .limit) outside 1 to 255
+    || (s .«t_start») outside 1 to mostTime
+    || (s .«t_off») outside 0 to mostTime
+    || (s .limit) outside 1 to mostLimit
 
 -- RECORD-1, of a record that is not closed: its settings or its phase out of range, its error counter at the limit
 unfoldable pub unsound : Connection → Bool

@@ -5,6 +5,7 @@ use mathlib.Core.Path.{_≡_}
 use mathlib.Core.Bool.{Bool, cond}
 use mathlib.Core.List.{List, [], _∷_}
 use lib.ListN.{length, getD, take, drop}
+use denote.Ref.{RefT}
 use Rattle.field.specs.Row.{fieldsOf}
 use Rattle.packet.specs.Sizes.{packetHeaderSize, leastLength, mostLength, packetSize, checkedBytes}
 use Rattle.packet.specs.Check.{checkOf}
@@ -37,6 +38,10 @@ checkAt s at = checkOf (take checkedBytes (drop at s))
 -- PKT-LAYOUT: that packet's user data
 abbrev pub userDataAt : List ℕ → ℕ → List ℕ
 userDataAt s at = take (packetHeaderAt s at .length - leastLength) (drop (at + packetHeaderSize) s)
+
+-- LINK-PART: and where it stands in the link's own memory
+abbrev pub userDataPlaceAt : RefT (List ℕ) → ℕ → ℕ × ℕ
+userDataPlaceAt s at = (s .ptr .0, s .ptr .1 + (at + packetHeaderSize))
 
 -- PKT-FLAG: the normal link's flag
 abbrev pub normalFlag : ℕ

@@ -4,7 +4,7 @@ ghost use Prim.Native.Nat.{_+_, _≤_};
 ghost use lib.ListN.{length};
 ghost use Rattle.packet.specs.Sizes.{packetHeaderSize, leastLength, packetSize, checkedBytes};
 ghost use Rattle.packet.specs.Check.{bitIn, byteIn};
-ghost use Rattle.packet.specs.Packet.{packetHeaderAt, checkAt, userDataAt, flagOf};
+ghost use Rattle.packet.specs.Packet.{packetHeaderAt, checkAt, userDataAt, userDataPlaceAt, flagOf};
 
 // PKT-LAYOUT: the bytes after this field, version, application type, transport number, N/R flag, packet type, check.
 pub struct Header {
@@ -110,7 +110,7 @@ pub fn flag_of(normal: bool) -> u8
 // PKT-LAYOUT: the user data of the whole packet at a place, whose length is at hand.
 pub fn user_data_at(s: &[u8], at: usize, counted: u16) -> &[u8]
     requires { ⌜ (counted ≡ packetHeaderAt (now s) at .length) × (leastLength ≤ counted) × (at + packetSize counted ≤ length (now s)) ⌝ }
-    ensures { λ r. ⌜ now r ≡ userDataAt (now (s .entry)) at ⌝ }
+    ensures { λ r. ⌜ (now r ≡ userDataAt (now (s .entry)) at) × (r .ptr ≡ userDataPlaceAt (s .entry) at) ⌝ }
 {
     let start = at + PACKET_HEADER_SIZE;
     let end = at + (counted as usize + LENGTH_SIZE);

@@ -104,7 +104,7 @@ pub fn sending(h: Header, t: Tail, next: Connection) -> Outcome
     comes_to(0, false, 0, Reply::Send(h, t), next)
 }
 
-fn malformed(c: Connection, now: Count) -> Outcome
+fn malformed_of(c: Connection, now: Count) -> Outcome
     ensures { λ r. ⌜ r ≡ malformedOf c now ⌝ }
 {
     if c.phase == OPENED {
@@ -246,7 +246,7 @@ fn raised(c: Connection, number: u16, delivered: usize) -> Outcome
 }
 
 // What follows a fault when open.
-fn open_follows(c: Connection, now: Count, h: Header, t: Tail, fault: u16) -> Outcome
+fn open_follows_of(c: Connection, now: Count, h: Header, t: Tail, fault: u16) -> Outcome
     ensures { λ r. ⌜ r ≡ openFollowsOf c now h t fault ⌝ }
 {
     if fault == 203 {
@@ -258,14 +258,14 @@ fn open_follows(c: Connection, now: Count, h: Header, t: Tail, fault: u16) -> Ou
     raised(c.clocked(now), fault, 0)
 }
 
-fn follows(c: Connection, now: Count, h: Header, t: Tail, fault: u16) -> Outcome
+fn follows_of(c: Connection, now: Count, h: Header, t: Tail, fault: u16) -> Outcome
     ensures { λ r. ⌜ r ≡ followsOf c now h t fault ⌝ }
 {
     if fault == 0 {
         return message_taken(c, now, h, t);
     }
     if c.phase == OPENED {
-        return open_follows(c, now, h, t, fault);
+        return open_follows_of(c, now, h, t, fault);
     }
     if c.phase == INITIATOR_WAITS_FOR_4 {
         if fault == 209 {
@@ -276,22 +276,22 @@ fn follows(c: Connection, now: Count, h: Header, t: Tail, fault: u16) -> Outcome
     released(fault, 0)
 }
 
-fn met(c: Connection, now: Count, h: Header, t: Tail, expectation: Expectation) -> Outcome
+fn met_of(c: Connection, now: Count, h: Header, t: Tail, expectation: Expectation) -> Outcome
     ensures { λ r. ⌜ r ≡ metOf c now h t «expectation» ⌝ }
 {
     match expectation {
-        Expectation::Expected => follows(c, now, h, t, peer_faults::fault_of(c, now, h, t)),
+        Expectation::Expected => follows_of(c, now, h, t, peer_faults::fault_of(c, now, h, t)),
         Expectation::Unexpected => kept(211, 0, c.clocked(now)),
         Expectation::Released => released(211, 0),
     }
 }
 
 // The message as taken apart, or what could not be, moves the connection.
-pub fn step(c: Connection, now: Count, parsed: Parsed) -> Outcome
+pub fn step_of(c: Connection, now: Count, parsed: Parsed) -> Outcome
     ensures { λ r. ⌜ r ≡ stepOf c now parsed ⌝ }
 {
     let Parsed::Whole(h, t) = parsed else {
-        return malformed(c, now);
+        return malformed_of(c, now);
     };
-    met(c, now, h, t, peer_faults::expectation_of(c.phase, h.kind))
+    met_of(c, now, h, t, peer_faults::expectation_of(c.phase, h.kind))
 }

@@ -35,15 +35,15 @@ returns-2 c =
 parse-requires : tie.Need-parse-requires
 parse-requires c κs = search needs
 
-step-requires : tie.Need-step-requires
-step-requires c κs = search needs
+step-of-requires : tie.Need-step-of-requires
+step-of-requires c κs = search needs
 
 returns-3 : tie.Need-returns-3
 unfolding receiveOutcome
 returns-3 c =
     search (
       tests,
-      c .step .ensures,
+      c .step-of .ensures,
       c .before .parse .ensures,
       c .before .before .if2 .left,
       ← (c .before .before .before .expired .ensures),
@@ -61,5 +61,5 @@ receive-outcome-spec =
     released-requires
     returns-2
     parse-requires
-    step-requires
+    step-of-requires
     returns-3)

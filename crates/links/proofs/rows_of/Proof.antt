@@ -100,7 +100,7 @@ returns-4 : tie.Need-returns-4
 returns-4 c =
     let a = c .before .before .before .before .before .before .before .before .before .before .before .before .before .args in
     c .class-d-rows .ensures
-    ∙ class-at (a .normal) (a .s .now) (a .at) (a .state) (c .before .before .before .before .before .before .before .before .packet-header-at .result) (c .before .user-data-at .result .now) (c .before .before .before .before .before .before .before .before .packet-header-at .ensures) (c .before .user-data-at .ensures)
+    ∙ class-at (a .normal) (a .s .now) (a .at) (a .state) (c .before .before .before .before .before .before .before .before .packet-header-at .result) (c .before .user-data-at .result .now) (c .before .before .before .before .before .before .before .before .packet-header-at .ensures) (c .before .user-data-at .ensures .0)
     ∙ row-class (a .normal) (a .s .now) (a .at) (a .state)
     (classDRows (a .normal) (a .at) (packetHeaderAt (a .s .now) (a .at)) (userDataAt (a .s .now) (a .at)) (a .state))
     (c .before .before .before .before .before .before .before .before .before .before .before .before .before .pre .0)

@@ -31,7 +31,10 @@ returns : tie.Need-returns
 returns c =
     let a = c .before .args in
     let e : (a .at + packetSize (a .counted)) - (a .at + packetHeaderSize) ≡ a .counted - leastLength = omega arith in
-    ap (λ (n : ℕ). take n (drop (a .at + packetHeaderSize) (a .s .now))) (e ∙ ap (λ (n : ℕ). n - leastLength) (c .before .pre .0))
+    let place : (a .at + packetHeaderSize) + a .s .ptr .1 ≡ a .s .ptr .1 + (a .at + packetHeaderSize) = omega arith in (
+      ap (λ (n : ℕ). take n (drop (a .at + packetHeaderSize) (a .s .now))) (e ∙ ap (λ (n : ℕ). n - leastLength) (c .before .pre .0)),
+      ap (λ (n : ℕ). (a .s .ptr .0, n)) place,
+    )
 
 pub user-data-at-spec : {M : Type 1} → statement M
 user-data-at-spec =

@@ -1,8 +1,8 @@
--- `what_follows::met` meets its contract. Assumes nothing.
+-- `what_follows::met_of` meets its contract. Assumes nothing.
 use Rattle.rules.proofs.Tests.{tests}
 use borrow.Author.Needs.{needs}
-use Rattle.what_follows.proofs.met.Statement.{statement}
-use Rattle.what_follows.proofs.met.Tie as tie
+use Rattle.what_follows.proofs.met_of.Statement.{statement}
+use Rattle.what_follows.proofs.met_of.Tie as tie
 
 enum-told : tie.Need-enum-told
 enum-told c = search needs
@@ -10,8 +10,8 @@ enum-told c = search needs
 fault-of-requires : tie.Need-fault-of-requires
 fault-of-requires c κs = search needs
 
-follows-requires : tie.Need-follows-requires
-follows-requires c κs = search needs
+follows-of-requires : tie.Need-follows-of-requires
+follows-of-requires c κs = search needs
 
 enum-told-2 : tie.Need-enum-told-2
 enum-told-2 c = search needs
@@ -29,7 +29,7 @@ released-requires : tie.Need-released-requires
 released-requires c κs = search needs
 
 returns : tie.Need-returns
-returns c = search (tests, c .follows .ensures, c .before .fault-of .ensures, c .before .before .enum-told .given .1)
+returns c = search (tests, c .follows-of .ensures, c .before .fault-of .ensures, c .before .before .enum-told .given .1)
 
 returns-2 : tie.Need-returns-2
 returns-2 c = search (tests, c .kept .ensures, c .before .clocked .ensures, c .before .before .enum-told2 .given .1)
@@ -37,13 +37,13 @@ returns-2 c = search (tests, c .kept .ensures, c .before .clocked .ensures, c .b
 returns-3 : tie.Need-returns-3
 returns-3 c = search (tests, c .released .ensures, c .before .enum-told3 .given .1)
 
-pub met-spec : {M : Type 1} → statement M
-met-spec =
+pub met-of-spec : {M : Type 1} → statement M
+met-of-spec =
     tie.close
     (tie.spec
     enum-told
     fault-of-requires
-    follows-requires
+    follows-of-requires
     enum-told-2
     clocked-requires
     kept-requires

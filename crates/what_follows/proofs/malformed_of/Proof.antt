@@ -1,9 +1,9 @@
--- `what_follows::malformed` meets its contract. Assumes nothing.
+-- `what_follows::malformed_of` meets its contract. Assumes nothing.
 use Rattle.rules.proofs.Tests.{tests}
 use Rattle.what_follows.specs.Follows.{malformedOf}
 use borrow.Author.Needs.{needs}
-use Rattle.what_follows.proofs.malformed.Statement.{statement}
-use Rattle.what_follows.proofs.malformed.Tie as tie
+use Rattle.what_follows.proofs.malformed_of.Statement.{statement}
+use Rattle.what_follows.proofs.malformed_of.Tie as tie
 
 clocked-requires : tie.Need-clocked-requires
 clocked-requires c κs = search needs
@@ -22,6 +22,6 @@ returns-2 : tie.Need-returns-2
 unfolding malformedOf
 returns-2 c = search (tests, c .released .ensures)
 
-pub malformed-spec : {M : Type 1} → statement M
-malformed-spec =
+pub malformed-of-spec : {M : Type 1} → statement M
+malformed-of-spec =
     tie.close (tie.spec clocked-requires kept-requires returns released-requires returns-2)

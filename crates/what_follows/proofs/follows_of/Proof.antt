@@ -1,9 +1,9 @@
--- `what_follows::follows` meets its contract. Assumes nothing.
+-- `what_follows::follows_of` meets its contract. Assumes nothing.
 use Rattle.rules.proofs.Tests.{tests}
 use Rattle.what_follows.specs.Follows.{followsOf}
 use borrow.Author.Needs.{needs}
-use Rattle.what_follows.proofs.follows.Statement.{statement}
-use Rattle.what_follows.proofs.follows.Tie as tie
+use Rattle.what_follows.proofs.follows_of.Statement.{statement}
+use Rattle.what_follows.proofs.follows_of.Tie as tie
 
 message-taken-requires : tie.Need-message-taken-requires
 message-taken-requires c κs = search needs
@@ -12,12 +12,12 @@ returns : tie.Need-returns
 unfolding followsOf
 returns c = search (tests, c .message-taken .ensures)
 
-open-follows-requires : tie.Need-open-follows-requires
-open-follows-requires c κs = search needs
+open-follows-of-requires : tie.Need-open-follows-of-requires
+open-follows-of-requires c κs = search needs
 
 returns-2 : tie.Need-returns-2
 unfolding followsOf
-returns-2 c = search (tests, c .open-follows .ensures)
+returns-2 c = search (tests, c .open-follows-of .ensures)
 
 refusing-requires : tie.Need-refusing-requires
 refusing-requires c κs = search needs
@@ -40,13 +40,13 @@ returns-5 : tie.Need-returns-5
 unfolding followsOf
 returns-5 c = search (tests, c .released2 .ensures)
 
-pub follows-spec : {M : Type 1} → statement M
-follows-spec =
+pub follows-of-spec : {M : Type 1} → statement M
+follows-of-spec =
     tie.close
     (tie.spec
     message-taken-requires
     returns
-    open-follows-requires
+    open-follows-of-requires
     returns-2
     refusing-requires
     returns-3

@@ -1,9 +1,9 @@
--- `what_follows::open_follows` meets its contract. Assumes nothing.
+-- `what_follows::open_follows_of` meets its contract. Assumes nothing.
 use Rattle.rules.proofs.Tests.{tests}
 use Rattle.what_follows.specs.Follows.{openFollowsOf}
 use borrow.Author.Needs.{needs}
-use Rattle.what_follows.proofs.open_follows.Statement.{statement}
-use Rattle.what_follows.proofs.open_follows.Tie as tie
+use Rattle.what_follows.proofs.open_follows_of.Statement.{statement}
+use Rattle.what_follows.proofs.open_follows_of.Tie as tie
 
 released-requires : tie.Need-released-requires
 released-requires c κs = search needs
@@ -35,8 +35,8 @@ returns-3 : tie.Need-returns-3
 unfolding openFollowsOf
 returns-3 c = search (tests, c .raised2 .ensures, c .before .clocked2 .ensures)
 
-pub open-follows-spec : {M : Type 1} → statement M
-open-follows-spec =
+pub open-follows-of-spec : {M : Type 1} → statement M
+open-follows-of-spec =
     tie.close
     (tie.spec
     released-requires
