@@ -199,7 +199,7 @@ fn expired(c: Connection, now: Count) -> bool
     }
     let settings = c.settings;
     let since = c.wait_start;
-    settings.t_start <= now.waited(since)
+    settings.t_start <= now.wait_of(since)
 }
 
 // WAIT-4, PEER-ORDER.

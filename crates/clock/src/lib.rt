@@ -62,11 +62,11 @@ impl Count {
     pub fn goes_back(self, last: Count) -> bool
         ensures { λ r. ⌜ r ≡ goesBack (self .0) (last .0) ⌝ }
     {
-        0x8000_0000 <= self.waited(last)
+        0x8000_0000 <= self.wait_of(last)
     }
 
     // How long a wait has lasted that a send at since began: not centred.
-    pub fn waited(self, since: Count) -> u32
+    pub fn wait_of(self, since: Count) -> u32
         ensures { λ r. ⌜ r ≡ waitOf (self .0) (since .0) ⌝ }
     {
         std::num::wrapping_sub_u32(self.0, since.0)
@@ -188,7 +188,7 @@ impl Age {
     }
 
     // What T_max makes of it.
-    pub fn judged(self, t_max: u32) -> Verdict
+    pub fn verdict_of(self, t_max: u32) -> Verdict
         ensures { λ r. ⌜ r ≡ verdictOf (self .0) «t_max» ⌝ }
     {
         let z = self.0;

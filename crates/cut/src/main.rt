@@ -111,7 +111,7 @@ fn put_last(out: &mut [u8], at: usize, count: u64, state: State)
     if place.failed {
         return;
     }
-    let end = recording::put_end(out, place.at, count);
+    let end = text::put_end(out, place.at, count);
     finish(out, end, state);
 }
 
@@ -269,7 +269,7 @@ fn cut_named(state: State) {
 fn chosen(i: usize, first: &[u8], second: &[u8]) -> Chosen {
     let mut word = [0u8; MOST_WORD];
     let size = os::arg(i, &mut word);
-    text::choose(&word[..size], first, second)
+    text::chosen_of(&word[..size], first, second)
 }
 
 // One line that says what the arguments are.

@@ -176,7 +176,7 @@ fn age_number(c: Connection, now: Count, h: Header) -> u16
     let min = c.offsets.min;
     let stamp = h.stamp;
     let age = Age::of(now, stamp, settings.e, min);
-    verdict_number(age.judged(settings.t_max))
+    verdict_number(age.verdict_of(settings.t_max))
 }
 
 // PEER-ORDER from 202 on, of a message that is expected.

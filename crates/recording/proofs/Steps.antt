@@ -13,7 +13,8 @@ use Rattle.rules.specs.Rows.{when_answer_else_}
 use Rattle.link_promises.specs.Promises.{linksUp}
 use Rattle.links.specs.declared.Taken.{Taken}
 use Rattle.link_promises.proofs.Forward.{goes-forward}
-use Rattle.recording.specs.Printed.{lineOf, endOf}
+use Rattle.text.specs.Line.{endOf}
+use Rattle.recording.specs.Printed.{lineOf}
 use Rattle.recording.specs.Progress.{lastAnswer}
 use Rattle.recording.specs.Cut.{Reach, reachedBy, stepFrom, cutIn, mostSteps, cutFrom, GoesOn}
 

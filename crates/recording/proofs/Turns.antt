@@ -14,7 +14,8 @@ use Rattle.window.proofs.Unread.{low-not-ended}
 use Rattle.packet.specs.Sizes.{mostPacket}
 use Rattle.links.specs.declared.State.{State}
 use Rattle.links.specs.declared.Taken.{Taken}
-use Rattle.recording.specs.Printed.{heading, lineOf, endOf, mostLine}
+use Rattle.text.specs.Line.{endOf}
+use Rattle.recording.specs.Printed.{heading, lineOf, mostLine}
 use Rattle.recording.specs.Progress.{startOf, windowed, takenAt, steppedOf}
 use Rattle.recording.specs.Cut.{cutOf}
 use Rattle.recording.specs.Whole.{Reads, Cuts, TurnOf, Cutting, PrintedToTheEnd, PrintedWhole}

@@ -17,7 +17,8 @@ use Rattle.packet.specs.Sizes.{mostPacket}
 use Rattle.links.specs.declared.State.{State}
 use Rattle.links.specs.declared.Taken.{Taken}
 use Rattle.link_promises.proofs.Alike.{sees-no-more-than-a-packet, buffer-seen-as-file}
-use Rattle.recording.specs.Printed.{heading, lineOf, endOf}
+use Rattle.text.specs.Line.{endOf}
+use Rattle.recording.specs.Printed.{heading, lineOf}
 use Rattle.recording.specs.Progress.{takenAt, lastAnswer, countedOf, steppedOf, Lies}
 use Rattle.recording.specs.Cut.{Reach, reachedBy, stepFrom, cutFrom, cutOf, startFrom}
 use Rattle.recording.specs.Whole.{Follows, reachOf, reached, StepsAsWhole, Reads, ReadsFollow, Cuts, PiecesAsWhole}

@@ -10,7 +10,8 @@ use Rattle.links.specs.Table.{takenOf}
 use Rattle.link_promises.specs.Promises.{linksUp}
 use Rattle.links.specs.declared.State.{State}
 use Rattle.links.specs.declared.Taken.{Taken}
-use Rattle.recording.specs.Printed.{heading, lineOf, endOf}
+use Rattle.text.specs.Line.{endOf}
+use Rattle.recording.specs.Printed.{heading, lineOf}
 use Rattle.recording.specs.Progress.{lastAnswer, countedOf}
 
 -- How far two files are cut: a place in each, the state of the steps, and how many packets were handed up.

@@ -25,10 +25,6 @@ lineOf taken =
     linkName (taken .normal) ++ numberWord (taken .answer) ++ numberWord (taken .used)
     ++ handedUpText (taken .kind) (taken .number) (taken .size)
 
--- the last line counts the packets handed up
-abbrev pub endOf : ℕ → List ℕ
-endOf count = ascii "end" ++ numberWord count ++ ascii "\n"
-
 -- the most bytes of a link's name; of three numbers and the end of the line; and of a line, a link's name, two numbers, and those:
 abbrev pub mostLinkName : ℕ
 mostLinkName = 9

@@ -12,7 +12,8 @@ use Rattle.window.specs.declared.Refilled.{Refilled}
 use Rattle.packet.specs.Sizes.{mostPacket}
 use Rattle.links.specs.declared.State.{State}
 use Rattle.links.specs.declared.Taken.{Taken}
-use Rattle.recording.specs.Printed.{heading, lineOf, endOf, mostLine}
+use Rattle.text.specs.Line.{endOf}
+use Rattle.recording.specs.Printed.{heading, lineOf, mostLine}
 use Rattle.recording.specs.Progress.{startOf, windowed, takenAt, lastAnswer, steppedOf, Lies, AdvancedTo}
 use Rattle.recording.specs.Cut.{Reach, reachedBy, stepFrom, cutOf}
 use Rattle.recording.specs.declared.Progress.{Progress}

@@ -6,7 +6,7 @@ ghost use lib.ListN.{length};
 ghost use Rattle.text.specs.Text.{PutAt};
 ghost use Rattle.window.specs.Window.{lowOf};
 ghost use Rattle.packet.specs.Sizes.{mostPacket};
-ghost use Rattle.recording.specs.Printed.{heading, linkName, handedUpText, lineOf, endOf, mostLinkName, mostHandedUp, mostLine};
+ghost use Rattle.recording.specs.Printed.{heading, linkName, handedUpText, lineOf, mostLinkName, mostHandedUp, mostLine};
 ghost use Rattle.recording.specs.Progress.{startOf, windowed, takenAt, lastAnswer, countedOf, steppedOf};
 ghost use Rattle.recording.specs.Progress.{UsesNoMore, Lies, AdvancedTo};
 use links::State;
@@ -116,19 +116,8 @@ pub fn put_line(out: &mut [u8], at: usize, taken: Taken) -> usize
     put_counted(out, at, taken, taken.size)
 }
 
-// The last line.
-pub fn put_end(out: &mut [u8], at: usize, count: u64) -> usize
-    requires { ⌜ at + mostLine ≤ length (now out) ⌝ }
-    ensures { λ r. ⌜ PutAt (now (out .entry)) at (endOf count) (now (out .exit)) r ⌝ }
-    ensures { λ r. ⌜ r ≤ at + mostLine ⌝ }
-{
-    let after_end = text::put(out, at, b"end");
-    let after_count = text::put_number(out, after_end, count);
-    text::put(out, after_count, b"\n")
-}
-
 // One step over the two windows, through a reader of each.
-fn take<'a>(normal: &'a [u8], redundant: &'a [u8], p: Progress) -> Taken
+fn taken_at<'a>(normal: &'a [u8], redundant: &'a [u8], p: Progress) -> Taken
     requires { ⌜ Lies p (length (now normal)) (length (now redundant)) ⌝ }
     ensures { λ r. ⌜ r ≡ takenAt (now (normal .entry)) (now (redundant .entry)) p ⌝ }
 {
@@ -176,7 +165,7 @@ fn last_answer(answer: u16) -> bool
 }
 
 // The count of packets handed up, after a step.
-fn counted(handed_up: u64, answer: u16) -> u64
+fn counted_of(handed_up: u64, answer: u16) -> u64
     requires { ⌜ «handed_up» + 1 < 2 ^ 64 ⌝ }
     ensures { λ r. ⌜ r ≡ countedOf «handed_up» answer ⌝ }
     ensures { λ r. ⌜ r ≤ «handed_up» + 1 ⌝ }
@@ -188,13 +177,13 @@ fn counted(handed_up: u64, answer: u16) -> u64
 }
 
 // The progress after a step.
-fn stepped(p: Progress, taken: Taken) -> Progress
+fn stepped_of(p: Progress, taken: Taken) -> Progress
     requires { ⌜ UsesNoMore taken p ⌝ }
     requires { ⌜ p .«handed_up» + 1 < 2 ^ 64 ⌝ }
     ensures { λ r. ⌜ r ≡ steppedOf taken p ⌝ }
 {
     let state = taken.state;
-    let handed_up = counted(p.handed_up, taken.answer);
+    let handed_up = counted_of(p.handed_up, taken.answer);
     let last = last_answer(taken.answer);
     let normal = p.normal;
     let redundant = p.redundant;
@@ -232,11 +221,11 @@ pub fn advance<'a>(
     ensures { λ r. ⌜ Lies (r .progress) (length (now (normal .entry))) (length (now (redundant .entry)))
         × (r .progress .«handed_up» ≤ p .«handed_up» + 1) × (r .next ≤ at + mostLine) ⌝ }
 {
-    let taken = take(normal, redundant, p);
+    let taken = taken_at(normal, redundant, p);
     let size = count_data(normal, redundant, p, taken);
     let next = put_counted(out, at, taken, size);
     Advanced {
-        progress: stepped(p, taken),
+        progress: stepped_of(p, taken),
         next,
     }
 }

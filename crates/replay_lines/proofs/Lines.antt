@@ -10,7 +10,8 @@ use lib.ListN.{length, length-append}
 use Rattle.rules.specs.Rows.{when_answer_else_}
 use Rattle.text.specs.Ascii.{ascii}
 use Rattle.text.specs.Text.{digit, decimalIn, mostDigits, decimalOf}
-use Rattle.replay_lines.specs.Printed.{lineOf, badOf, endOf, mostEnd, mostLine}
+use Rattle.text.specs.Line.{endOf, mostEnd, numberWord}
+use Rattle.replay_lines.specs.Printed.{lineOf, badOf, mostLine}
 
 digits-fit : (most n : ℕ) → length (decimalIn most n) ≤ most
 unfolding decimalIn
@@ -38,7 +39,7 @@ line-fits slot number =
 
 end-fits : (count : ℕ) → length (endOf count) ≤ mostEnd
 end-fits count =
-    omega (arith, decimal-fits count, length-append (ascii "end ") (decimalOf count ++ ascii "\n"), length-append (decimalOf count) (ascii "\n"))
+    omega (arith, decimal-fits count, length-append (ascii "end" ++ numberWord count) (ascii "\n"), length-append (ascii "end") (numberWord count))
 
 pub end-in-line : (count : ℕ) → length (endOf count) ≤ mostLine
 end-in-line count = omega (arith, end-fits count)

@@ -23,7 +23,8 @@ use Rattle.trace.specs.Call.{room, callOf, madeBy, madeOn}
 use Rattle.trace.specs.declared.Record.{Record}
 use Rattle.trace.specs.declared.Next.{Next}
 use Rattle.trace.specs.declared.Next.the-variants.{End, Bad, Whole}
-use Rattle.replay_lines.specs.Printed.{lineOf, badOf, endOf}
+use Rattle.text.specs.Line.{endOf}
+use Rattle.replay_lines.specs.Printed.{lineOf, badOf}
 use Rattle.replay_lines.specs.Replay.{anyOut, WhateverOutHolds, stops, turnOn}
 use Rattle.replay_lines.specs.Slot.{slotIn, slotOf, Holds, storedIn, TurnedOn}
 use Rattle.replay_lines.specs.declared.Progress.{Progress}

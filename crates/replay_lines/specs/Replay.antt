@@ -14,7 +14,8 @@ use Rattle.trace.specs.Call.{room, madeOn}
 use Rattle.trace.specs.declared.Record.{Record}
 use Rattle.trace.specs.declared.Next.{Next}
 use Rattle.trace.specs.declared.Next.the-variants.{End, Bad, Whole}
-use Rattle.replay_lines.specs.Printed.{heading, lineOf, badOf, endOf, mostLine}
+use Rattle.text.specs.Line.{endOf}
+use Rattle.replay_lines.specs.Printed.{heading, lineOf, badOf, mostLine}
 use Rattle.replay_lines.specs.declared.Progress.{Progress}
 
 -- TRACE-5: 64 closed slots

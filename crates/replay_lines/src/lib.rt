@@ -9,7 +9,7 @@ ghost use Rattle.pieces.specs.Pieces.{waits, AdvancedTo};
 ghost use Rattle.trace.specs.Record.{sizeOf};
 ghost use Rattle.trace.specs.Call.{room};
 ghost use Rattle.trace.specs.declared.Next.{Next};
-ghost use Rattle.replay_lines.specs.Printed.{heading, lineOf, badOf, endOf, mostEnd, mostLine};
+ghost use Rattle.replay_lines.specs.Printed.{heading, lineOf, badOf, mostLine};
 ghost use Rattle.replay_lines.specs.Replay.{startOf, replay};
 ghost use Rattle.replay_lines.specs.Slot.{slotOf, WholeFits, TurnsAny};
 use connection::Connection;
@@ -80,23 +80,13 @@ fn put_line(out: &mut [u8], at: usize, slot: u8, number: u16) -> usize
     text::put(out, after_number, b"\n")
 }
 
-// The last line.
-fn put_end(out: &mut [u8], at: usize, count: u64) -> usize
-    requires { ⌜ at + mostEnd ≤ length (now out) ⌝ }
-    ensures { λ r. ⌜ PutAt (now (out .entry)) at (endOf count) (now (out .exit)) r ⌝ }
-{
-    let after_end = text::put(out, at, b"end ");
-    let after_count = text::put_decimal(out, after_end, count);
-    text::put(out, after_count, b"\n")
-}
-
 // `bad` and the last line.
 fn put_bad(out: &mut [u8], at: usize, count: u64) -> usize
     requires { ⌜ at + mostLine ≤ length (now out) ⌝ }
     ensures { λ r. ⌜ PutAt (now (out .entry)) at (badOf count) (now (out .exit)) r ⌝ }
 {
     let after_bad = text::put(out, at, b"bad\n");
-    put_end(out, after_bad, count)
+    text::put_end(out, after_bad, count)
 }
 
 // The slot whose record a turn takes and leaves: the record's own; 0 where it has none, and then that record stays as it is.
@@ -173,7 +163,7 @@ fn turn(
             used: 0,
             count,
             stopped: true,
-            at: put_end(out, at, count),
+            at: text::put_end(out, at, count),
         },
         Next::Bad => Turned {
             record: c,
@@ -187,7 +177,7 @@ fn turn(
 }
 
 // Whether a replay waits: it has stopped, or is to be refilled, or has no room for a line.
-fn waiting(stopped: bool, w: Window, room: usize) -> bool
+fn waits(stopped: bool, w: Window, room: usize) -> bool
     requires { ⌜ w .from ≤ w .to ⌝ }
     ensures { λ r. ⌜ r ≡ waits replay stopped w room ⌝ }
 {
@@ -201,7 +191,7 @@ fn waiting(stopped: bool, w: Window, room: usize) -> bool
 }
 
 // The bytes at hand.
-fn at_hand(buffer: &[u8], w: Window) -> &[u8]
+fn unread(buffer: &[u8], w: Window) -> &[u8]
     requires { ⌜ Within w (length (now buffer)) ⌝ }
     ensures { λ r. ⌜ now r ≡ unread (now (buffer .entry)) w ⌝ }
 {
@@ -228,8 +218,8 @@ pub fn advance(
     let mut table = p.table;
     let mut count = p.count;
     let mut stopped = p.stopped;
-    while !waiting(stopped, window, out.len() - at) {
-        let s = at_hand(buffer, window);
+    while !waits(stopped, window, out.len() - at) {
+        let s = unread(buffer, window);
         let first = trace::record_of(s);
         let slot = slot_of(first);
         let t = turn(s, first, table[slot], count, lent, out, at);

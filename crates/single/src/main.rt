@@ -31,13 +31,13 @@ struct Turned {
 
 // What an input is, by the word that asks for it.
 fn kind_of(word: &[u8]) -> Kind {
-    match text::choose(word, b"steps", b"packets") {
+    match text::chosen_of(word, b"steps", b"packets") {
         Chosen::First => Kind::Step,
         Chosen::Second => Kind::Packet,
-        Chosen::Neither => match text::choose(word, b"messages", b"calls") {
+        Chosen::Neither => match text::chosen_of(word, b"messages", b"calls") {
             Chosen::First => Kind::Message,
             Chosen::Second => Kind::Call,
-            Chosen::Neither => match text::choose(word, b"tables", b"writes") {
+            Chosen::Neither => match text::chosen_of(word, b"tables", b"writes") {
                 Chosen::First => Kind::Table,
                 Chosen::Second => Kind::Write,
                 Chosen::Neither => Kind::None,

@@ -18,6 +18,13 @@ numberWord n = ascii " " ++ decimalOf n
 abbrev pub mostNumber : ℕ
 mostNumber = 1 + mostDigits
 
+-- TRACE-13, CUT-1: the last line, with a count; and the most bytes of it:
+abbrev pub endOf : ℕ → List ℕ
+endOf count = ascii "end" ++ numberWord count ++ ascii "\n"
+
+abbrev pub mostEnd : ℕ
+mostEnd = 3 + mostNumber + 1
+
 -- an offset, its size, after a minus where it is negative; and the most bytes of it:
 abbrev pub offsetWord : Offset → List ℕ
 offsetWord offset = cond (ltZ (offset .0) (pos 0)) (ascii " -") (ascii " ") ++ decimalOf (natAbs (offset .0))

@@ -3,8 +3,8 @@ ghost use mathlib.Core.Path.{_≡_};
 ghost use Prim.Native.Nat.{_+_, _*_, _≤_, _<_};
 ghost use lib.ListN.{length, take, drop};
 ghost use Rattle.text.specs.Text.{PutAt, placeOf, digit, mostDigits, decimalOf, sameWord, chosenOf};
-ghost use Rattle.text.specs.Line.{numberWord, offsetWord, digitsOf, bytesWord, allBefore, writtenWords};
-ghost use Rattle.text.specs.Line.{mostNumber, mostOffset, mostBytesWord, mostWrittenWords};
+ghost use Rattle.text.specs.Line.{numberWord, endOf, offsetWord, digitsOf, bytesWord, allBefore, writtenWords};
+ghost use Rattle.text.specs.Line.{mostNumber, mostEnd, mostOffset, mostBytesWord, mostWrittenWords};
 use clock::Offset;
 
 // The most digits of a number, and the most bytes of one after a space.
@@ -71,6 +71,17 @@ pub fn put_number(out: &mut [u8], at: usize, n: u64) -> usize
 {
     let next = put(out, at, b" ");
     put_decimal(out, next, n)
+}
+
+// TRACE-13, CUT-1: the last line.
+pub fn put_end(out: &mut [u8], at: usize, count: u64) -> usize
+    requires { ⌜ at + mostEnd ≤ length (now out) ⌝ }
+    ensures { λ r. ⌜ PutAt (now (out .entry)) at (endOf count) (now (out .exit)) r ⌝ }
+    ensures { λ r. ⌜ r ≤ at + mostEnd ⌝ }
+{
+    let after_end = put(out, at, b"end");
+    let after_count = put_number(out, after_end, count);
+    put(out, after_count, b"\n")
 }
 
 // An offset after a space: its size, after a minus where it is negative.
@@ -140,7 +151,7 @@ fn first(s: &[u8], n: usize) -> &[u8]
 }
 
 // Whether the bytes of a lent buffer past those written are still what stood there before.
-fn stayed(lent: &[u8], written: usize) -> bool
+fn all_before(lent: &[u8], written: usize) -> bool
     ensures { λ r. ⌜ r ≡ allBefore (drop written (now (lent .entry))) ⌝ }
 {
     let mut i = written;
@@ -160,7 +171,7 @@ pub fn put_written(out: &mut [u8], at: usize, lent: &[u8], written: usize) -> us
     ensures { λ r. ⌜ r ≤ at + mostWrittenWords (length (now (lent .entry))) ⌝ }
 {
     let next = put_bytes(out, at, first(lent, written));
-    if stayed(lent, written) {
+    if all_before(lent, written) {
         return next;
     }
     put(out, next, b" changed")
@@ -212,7 +223,7 @@ fn same_word(word: &[u8], other: &[u8]) -> bool
     check::same(word, other)
 }
 
-pub fn choose(word: &[u8], first: &[u8], second: &[u8]) -> Chosen
+pub fn chosen_of(word: &[u8], first: &[u8], second: &[u8]) -> Chosen
     ensures { λ r. ⌜ r ≡ chosenOf (now (word .entry)) (now (first .entry)) (now (second .entry)) ⌝ }
 {
     if same_word(word, first) {

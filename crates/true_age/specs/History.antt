@@ -12,6 +12,7 @@ use Rattle.message.specs.declared.Parsed.{Parsed}
 use Rattle.connection.specs.declared.Settings.{Settings}
 use Rattle.connection.specs.declared.Connection.{Connection}
 use Rattle.connection.specs.Connection.{opened}
+use Rattle.what_follows.specs.declared.Outcome.{Outcome}
 use Rattle.what_follows.specs.declared.Reply.{Reply}
 use Rattle.what_follows.specs.declared.Reply.the-variants.{Nothing, Send}
 use Rattle.calls.specs.declared.Call.{Call}
@@ -44,6 +45,14 @@ module _ (W : World) where
     pub echoes : h .«last_peer_stamp» ≡ ours .header .stamp
     pub reported : h .arrival ≡ countOf (W .peers (W .arrived which))
 
+  -- what a call comes to at a moment: our count is its now
+  abbrev pub outcomeAt : W .Moment → Call → Connection → List ℕ → ℕ → Outcome
+  outcomeAt u call c lent room = outcomeOf call c (countOf (W .ours u)) lent room
+
+  -- and begin, of what it is given
+  abbrev pub begunAt : W .Moment → ℕ → Settings → ℕ → ℕ → Connection → List ℕ → ℕ → Outcome
+  begunAt t role settings first period = outcomeAt t (Call.Begin (given role settings first period))
+
   module _ (began : W .Moment) where
     -- a message of the peer's, taken at a moment
     pub record Judged (log : List Ours) (taken : W .Moment) (h : Header) : Type 0 where
@@ -68,19 +77,13 @@ module _ (W : World) where
       -- an initiator's set-up has begun when begin writes OffsetStart; a responder's may begin later, with the peer's
       begun : (c : Connection) (first period : ℕ) (t : W .Moment) (lent : List ℕ) (room : ℕ)
           → (role ≡ initiator → W .early began t)
-          → outcomeOf (Call.Begin (given role settings first period)) c (countOf (W .ours t)) lent room .number ≡ 0
-          → History role settings
-          (withWritten t (outcomeOf (Call.Begin (given role settings first period)) c (countOf (W .ours t)) lent room .reply) [])
-          t
-          (outcomeOf (Call.Begin (given role settings first period)) c (countOf (W .ours t)) lent room .next)
+          → begunAt t role settings first period c lent room .number ≡ 0
+          → History role settings (withWritten t (begunAt t role settings first period c lent room .reply) []) t
+          (begunAt t role settings first period c lent room .next)
       -- Another begin is refused: one that answers 0 begins another history. The peer is truthful in the message that set-up takes, by a
       -- call that answers 0; of other bytes nothing is supposed here.
       called : {log : List Ours} {t : W .Moment} {c : Connection} → History role settings log t c
           → (u : W .Moment) → W .early t u → (call : Call) (lent : List ℕ) (room : ℕ)
-          → (ruleOf call .begins ≡ true → eqb (outcomeOf call c (countOf (W .ours u)) lent room .number) 0 ≡ false)
-          → (eqb (c .phase) opened ≡ false → outcomeOf call c (countOf (W .ours u)) lent room .number ≡ 0
-          → JudgedBytes log u (ruleOf call .message lent))
-          → History role settings
-          (withWritten u (outcomeOf call c (countOf (W .ours u)) lent room .reply) log)
-          u
-          (outcomeOf call c (countOf (W .ours u)) lent room .next)
+          → (ruleOf call .begins ≡ true → eqb (outcomeAt u call c lent room .number) 0 ≡ false)
+          → (eqb (c .phase) opened ≡ false → outcomeAt u call c lent room .number ≡ 0 → JudgedBytes log u (ruleOf call .message lent))
+          → History role settings (withWritten u (outcomeAt u call c lent room .reply) log) u (outcomeAt u call c lent room .next)

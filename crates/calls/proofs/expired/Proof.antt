@@ -13,12 +13,12 @@ returns-2 : tie.Need-returns-2
 unfolding expired timed
 returns-2 c = search (tests)
 
-waited-requires : tie.Need-waited-requires
-waited-requires c κs = search needs
+wait-of-requires : tie.Need-wait-of-requires
+wait-of-requires c κs = search needs
 
 returns-3 : tie.Need-returns-3
 unfolding expired timed
-returns-3 c = search (tests, c .before .waited .ensures)
+returns-3 c = search (tests, c .before .wait-of .ensures)
 
 pub expired-spec : {M : Type 1} → statement M
-expired-spec = tie.close (tie.spec returns returns-2 waited-requires returns-3)
+expired-spec = tie.close (tie.spec returns returns-2 wait-of-requires returns-3)

@@ -3,7 +3,7 @@ use Prim.Native.Nat.{ℕ}
 use mathlib.Core.Path.{subst}
 use native.Mathlib.Omega.{arith}
 use Rattle.text.specs.Text.{PutAt}
-use Rattle.recording.specs.Printed.{endOf}
+use Rattle.text.specs.Line.{endOf}
 use Rattle.recording.proofs.Turns.{printed-whole}
 use borrow.Author.Needs.{needs}
 use Rattle.cut.proofs.put_last.Statement.{statement}

@@ -12,16 +12,16 @@ returns c = search (tests)
 of-requires : tie.Need-of-requires
 of-requires c κs = search needs
 
-judged-requires : tie.Need-judged-requires
-judged-requires c κs = search needs
+verdict-of-requires : tie.Need-verdict-of-requires
+verdict-of-requires c κs = search needs
 
 verdict-number-requires : tie.Need-verdict-number-requires
 verdict-number-requires c κs = search needs
 
 returns-2 : tie.Need-returns-2
 unfolding ageNumber
-returns-2 c = search (tests, c .verdict-number .ensures, c .before .judged .ensures, c .before .before .of .ensures)
+returns-2 c = search (tests, c .verdict-number .ensures, c .before .verdict-of .ensures, c .before .before .of .ensures)
 
 pub age-number-spec : {M : Type 1} → statement M
 age-number-spec =
-    tie.close (tie.spec returns of-requires judged-requires verdict-number-requires returns-2)
+    tie.close (tie.spec returns of-requires verdict-of-requires verdict-number-requires returns-2)

@@ -10,8 +10,8 @@ use borrow.Author.Needs.{needs}
 use Rattle.recording.proofs.advance.Statement.{statement}
 use Rattle.recording.proofs.advance.Tie as tie
 
-take-requires : tie.Need-take-requires
-take-requires c κs = search needs
+taken-at-requires : tie.Need-taken-at-requires
+taken-at-requires c κs = search needs
 
 count-data-requires : tie.Need-count-data-requires
 count-data-requires c κs = search needs
@@ -19,9 +19,9 @@ count-data-requires c κs = search needs
 put-counted-requires : tie.Need-put-counted-requires
 put-counted-requires c κs = search needs
 
-stepped-requires : tie.Need-stepped-requires
-stepped-requires c κs =
-    let taken = c .before .before .before .before .before .take in
+stepped-of-requires : tie.Need-stepped-of-requires
+stepped-of-requires c κs =
+    let taken = c .before .before .before .before .before .taken-at in
     let start = c .before .before .before .before .before .before .before .before .before in
     let a = start .args in
     (uses (a .normal .now) (a .redundant .now) (a .p) (start .pre .0) (taken .ensures), start .pre .1 .1 .1)
@@ -31,16 +31,16 @@ same-length c = search needs
 
 returns : tie.Need-returns
 returns c =
-    let taken = c .before .before .before .before .before .before .take in
+    let taken = c .before .before .before .before .before .before .taken-at in
     let line = c .before .before .before .put-counted in
     let start = c .before .before .before .before .before .before .before .before .before .before in
     let a = start .args in
     let ns = length (a .normal .now) in
     let rs = length (a .redundant .now) in
     let used = uses (a .normal .now) (a .redundant .now) (a .p) (start .pre .0) (taken .ensures) in
-    let lies = lies-after ns rs (a .p) (c .stepped .result) (taken .result) used (start .pre .0) (c .stepped .ensures) in (
+    let lies = lies-after ns rs (a .p) (c .stepped-of .result) (taken .result) used (start .pre .0) (c .stepped-of .ensures) in (
       record {
-        progress = c .stepped .ensures ∙ ap (λ (t : Taken). steppedOf t (a .p)) (taken .ensures);
+        progress = c .stepped-of .ensures ∙ ap (λ (t : Taken). steppedOf t (a .p)) (taken .ensures);
         put = subst (λ (t : Taken). PutAt (a .out .now) (a .at) (lineOf t) (line .last .0) (line .result)) (taken .ensures) (line .ensures .0);
       },
       (lies .0, lies .1, line .ensures .1),
@@ -48,4 +48,4 @@ returns c =
 
 pub advance-spec : {M : Type 1} → statement M
 advance-spec =
-    tie.close (tie.spec take-requires count-data-requires put-counted-requires stepped-requires same-length returns)
+    tie.close (tie.spec taken-at-requires count-data-requires put-counted-requires stepped-of-requires same-length returns)

@@ -24,14 +24,14 @@ loop-holds c =
     let a = start .args in
     keeps-first (a .buffer .now) (a .p) (a .window) (a .lent .now) (a .out .now) (a .at) (simp length-map at (start .good .1 .1 .1 .1 .0 .1 .1 .0 .1 .0 .1)) (start .pre .0) (start .pre .2)
 
-sub-waiting : tie.Need-sub-waiting Inv-loop μ-loop
-sub-waiting c = omega (arith, c .loop .inv .out-size, c .loop .inv .within)
+sub-waits : tie.Need-sub-waits Inv-loop μ-loop
+sub-waits c = omega (arith, c .loop .inv .out-size, c .loop .inv .within)
 
-waiting-requires : tie.Need-waiting-requires Inv-loop μ-loop
-waiting-requires c κs = c .loop .inv .lies .0
+waits-requires : tie.Need-waits-requires Inv-loop μ-loop
+waits-requires c κs = c .loop .inv .lies .0
 
-at-hand-requires : tie.Need-at-hand-requires Inv-loop μ-loop
-at-hand-requires c κs = c .before .before .loop .inv .lies
+unread-requires : tie.Need-unread-requires Inv-loop μ-loop
+unread-requires c κs = c .before .before .loop .inv .lies
 
 record-of-requires : tie.Need-record-of-requires Inv-loop μ-loop
 record-of-requires c κs = tt
@@ -50,8 +50,8 @@ turn-requires c κs =
     let start = c .before .before .before .before .before .before .before .before .before .before .before .before .before in
     let a = start .args in
     let at = c .before .before .before .before .before .before .before .before .loop in
-    let goes = sym (c .before .before .before .before .before .before .before .waiting .ensures) ∙ not-true _ (c .before .before .before .before .before .before .if1 .taken) in
-    let hand = c .before .before .before .before .before .at-hand in
+    let goes = sym (c .before .before .before .before .before .before .before .waits .ensures) ∙ not-true _ (c .before .before .before .before .before .before .if1 .taken) in
+    let hand = c .before .before .before .before .before .unread in
     let first = c .before .before .before .before .record-of in
     asks (a .buffer .now) (a .p) (a .window) (a .lent .now) (a .out .now) (a .at) (at .inv) goes (hand .result .now) (hand .ensures) (first .result) (first .ensures) (start .pre .1) (start .pre .3)
 
@@ -66,8 +66,8 @@ used-requires c κs =
     let start = c .before .before .before .before .before .before .before .before .before .before .before .before .before .before .before .before .before .before .before in
     let a = start .args in
     let at = c .before .before .before .before .before .before .before .before .before .before .before .before .before .before .loop in
-    let goes = sym (c .before .before .before .before .before .before .before .before .before .before .before .before .before .waiting .ensures) ∙ not-true _ (c .before .before .before .before .before .before .before .before .before .before .before .before .if1 .taken) in
-    let hand = c .before .before .before .before .before .before .before .before .before .before .before .at-hand in
+    let goes = sym (c .before .before .before .before .before .before .before .before .before .before .before .before .before .waits .ensures) ∙ not-true _ (c .before .before .before .before .before .before .before .before .before .before .before .before .if1 .taken) in
+    let hand = c .before .before .before .before .before .before .before .before .before .before .before .unread in
     let first = c .before .before .before .before .before .before .before .before .before .before .record-of in
     let fits = used-fits (a .buffer .now) (a .p) (a .window) (a .lent .now) (a .out .now) (a .at) (at .inv) goes (hand .result .now) (hand .ensures) (first .result) (first .ensures) (c .before .before .before .before .before .before .before .before .before .slot-of .ensures .0) (c .before .before .before .before .before .turn .ensures) in
     omega (arith, fits, at .inv .lies .0)
@@ -77,8 +77,8 @@ loop-less c =
     let start = c .before .before .before .before .before .before .before .before .before .before .before .before .before .before .before .before .before .before .before .before in
     let a = start .args in
     let at = c .before .before .before .before .before .before .before .before .before .before .before .before .before .before .before .loop in
-    let goes = sym (c .before .before .before .before .before .before .before .before .before .before .before .before .before .before .waiting .ensures) ∙ not-true _ (c .before .before .before .before .before .before .before .before .before .before .before .before .before .if1 .taken) in
-    let hand = c .before .before .before .before .before .before .before .before .before .before .before .before .at-hand in
+    let goes = sym (c .before .before .before .before .before .before .before .before .before .before .before .before .before .before .waits .ensures) ∙ not-true _ (c .before .before .before .before .before .before .before .before .before .before .before .before .before .if1 .taken) in
+    let hand = c .before .before .before .before .before .before .before .before .before .before .before .before .unread in
     let first = c .before .before .before .before .before .before .before .before .before .before .before .record-of in
     fewer-left (a .buffer .now) (a .p) (a .window) (a .lent .now) (a .out .now) (a .at) (at .inv) goes (hand .result .now) (hand .ensures) (first .result) (first .ensures) (c .before .before .before .before .before .before .before .before .before .before .slot-of .ensures .0) (c .before .before .before .before .before .before .turn .ensures) (c .used .ensures .0)
 
@@ -87,8 +87,8 @@ loop-again c =
     let start = c .before .before .before .before .before .before .before .before .before .before .before .before .before .before .before .before .before .before .before .before in
     let a = start .args in
     let at = c .before .before .before .before .before .before .before .before .before .before .before .before .before .before .before .loop in
-    let goes = sym (c .before .before .before .before .before .before .before .before .before .before .before .before .before .before .waiting .ensures) ∙ not-true _ (c .before .before .before .before .before .before .before .before .before .before .before .before .before .if1 .taken) in
-    let hand = c .before .before .before .before .before .before .before .before .before .before .before .before .at-hand in
+    let goes = sym (c .before .before .before .before .before .before .before .before .before .before .before .before .before .before .waits .ensures) ∙ not-true _ (c .before .before .before .before .before .before .before .before .before .before .before .before .before .if1 .taken) in
+    let hand = c .before .before .before .before .before .before .before .before .before .before .before .before .unread in
     let first = c .before .before .before .before .before .before .before .before .before .before .before .record-of in
     let done = c .before .before .before .before .before .before .turn in
     keeps-on (a .buffer .now) (a .p) (a .window) (a .lent .now) (a .out .now) (a .at) (at .inv) goes (hand .result .now) (hand .ensures) (first .result) (first .ensures) (c .before .before .before .before .before .before .before .before .before .before .slot-of .ensures .0) (done .ensures) (done .kept .1 .1 .1 .1 .0) (done .kept .1 .1 .1 .1 .1 .0) (c .used .ensures .0)
@@ -104,10 +104,10 @@ returns c =
     let start = c .before .before .before .before .before .before .before in
     let a = start .args in
     let at = c .before .before .loop in
-    (keeps-last (a .buffer .now) (a .p) (a .window) (a .lent .now) (a .out .now) (a .at) (at .inv) (sym (c .before .waiting .ensures) ∙ not-false _ (c .if1 .left)), at .inv .counted)
+    (keeps-last (a .buffer .now) (a .p) (a .window) (a .lent .now) (a .out .now) (a .at) (at .inv) (sym (c .before .waits .ensures) ∙ not-false _ (c .if1 .left)), at .inv .counted)
 
 pub advance-spec : {M : Type 1} → statement M
 advance-spec =
     tie.close
-    (tie.spec Inv-loop μ-loop loop-holds sub-waiting waiting-requires at-hand-requires record-of-requires slot-of-requires mul-turn array-copy-out-turn
+    (tie.spec Inv-loop μ-loop loop-holds sub-waits waits-requires unread-requires record-of-requires slot-of-requires mul-turn array-copy-out-turn
     turn-requires mul-table array-set-from-table used-requires loop-less loop-again same-length same-length-2 returns)

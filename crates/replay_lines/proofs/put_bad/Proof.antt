@@ -20,7 +20,7 @@ returns : tie.Need-returns
 returns c =
     let word = c .before .before .before .before .before .before .put in
     let ends = c .before .before .put-end in
-    and-then (word .ensures) (ends .ensures)
+    and-then (word .ensures) (ends .ensures .0)
 
 pub put-bad-spec : {M : Type 1} → statement M
 put-bad-spec =

@@ -40,7 +40,7 @@ returns c =
     let is = c .before .before .before .before .enum-told .given .1 in
     subst (λ (n : Next). TurnsAny (a .c) (a .count) n (a .s .now) (a .lent .now) (a .out .now) (a .at) (a .lent .now) (c .before .before .put-end .last .0)
     (turnedTo (a .c) 0 (a .count) true (c .before .before .put-end .result))) (sym is)
-    (λ p holds. end-turn p (a .c) (a .count) (a .s .now) (a .lent .now) (a .out .now) holds (c .before .before .put-end .ensures))
+    (λ p holds. end-turn p (a .c) (a .count) (a .s .now) (a .lent .now) (a .out .now) holds (c .before .before .put-end .ensures .0))
 
 same-length-2 : tie.Need-same-length-2
 same-length-2 c = search needs

@@ -14,8 +14,8 @@ first-requires c κs = search needs
 put-bytes-requires : tie.Need-put-bytes-requires
 put-bytes-requires c κs = search needs
 
-stayed-requires : tie.Need-stayed-requires
-stayed-requires c κs = search needs
+all-before-requires : tie.Need-all-before-requires
+all-before-requires c κs = search needs
 
 same-length : tie.Need-same-length
 same-length c = search needs
@@ -25,7 +25,7 @@ returns c =
     let a = c .before .before .before .before .before .before .before .before .before .args in
     let put = c .before .before .before .before .put-bytes in
     let part = c .before .before .before .before .before .first .ensures in
-    let stayed = sym (c .if1 .taken) ∙ c .before .stayed .ensures in (
+    let stayed = sym (c .if1 .taken) ∙ c .before .all-before .ensures in (
       named _ _ (sym (append-nil _) ∙ written-words (a .lent .now) (a .written) _ _ (part .0) stayed) (put .ensures .0),
       omega (arith, put .ensures .1, part .1),
     )
@@ -44,7 +44,7 @@ returns-2 c =
     let a = c .before .before .before .before .before .before .before .before .before .before .before .before .before .before .args in
     let put = c .before .before .before .before .before .before .before .before .before .put-bytes in
     let part = c .before .before .before .before .before .before .before .before .before .before .first .ensures in
-    let stayed = sym (c .before .before .before .before .before .if1 .left) ∙ c .before .before .before .before .before .before .stayed .ensures in
+    let stayed = sym (c .before .before .before .before .before .if1 .left) ∙ c .before .before .before .before .before .before .all-before .ensures in
     let changed = c .before .before .put in (
       named _ _ (written-words (a .lent .now) (a .written) _ _ (part .0) stayed) (and-then (put .ensures .0) (changed .ensures)),
       omega (arith, put .ensures .1, part .1, changed .ensures .place),
@@ -56,7 +56,7 @@ put-written-spec =
     (tie.spec
     first-requires
     put-bytes-requires
-    stayed-requires
+    all-before-requires
     same-length
     returns
     slice-aggregate-put

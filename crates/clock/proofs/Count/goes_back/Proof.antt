@@ -9,14 +9,14 @@ use Rattle.clock.proofs.Wrapped.{centred-negative}
 use Rattle.clock.proofs.Count.goes_back.Statement.{statement}
 use Rattle.clock.proofs.Count.goes_back.Tie as tie
 
-waited-requires : tie.Need-waited-requires
-waited-requires c κs = search needs
+wait-of-requires : tie.Need-wait-of-requires
+wait-of-requires c κs = search needs
 
 returns : tie.Need-returns
 unfolding goesBack waitOf
 returns c =
     let a = c .before .args in
-    ap (leb (2 ^ 31)) (c .waited .ensures) ∙ centred-negative (pos (a .self .0) -ℤ pos (a .last .0))
+    ap (leb (2 ^ 31)) (c .wait-of .ensures) ∙ centred-negative (pos (a .self .0) -ℤ pos (a .last .0))
 
 pub goes-back-spec : {M : Type 1} → statement M
-goes-back-spec = tie.close (tie.spec waited-requires returns)
+goes-back-spec = tie.close (tie.spec wait-of-requires returns)

@@ -1,8 +1,9 @@
--- `replay_lines::put_end` meets its contract: the word, the number, the end of the line. Assumes nothing.
+-- `text::put_end` meets its contract: the word, the number, the end of the line. Assumes nothing.
+use native.Mathlib.Omega.{arith}
 use Rattle.text.proofs.Puts.{and-then}
 use borrow.Author.Needs.{needs}
-use Rattle.replay_lines.proofs.put_end.Statement.{statement}
-use Rattle.replay_lines.proofs.put_end.Tie as tie
+use Rattle.text.proofs.put_end.Statement.{statement}
+use Rattle.text.proofs.put_end.Tie as tie
 
 slice-aggregate-put : tie.Need-slice-aggregate-put
 slice-aggregate-put c = search needs
@@ -10,8 +11,8 @@ slice-aggregate-put c = search needs
 put-requires : tie.Need-put-requires
 put-requires c κs = search needs
 
-put-decimal-requires : tie.Need-put-decimal-requires
-put-decimal-requires c κs = search needs
+put-number-requires : tie.Need-put-number-requires
+put-number-requires c κs = search needs
 
 slice-aggregate-put-2 : tie.Need-slice-aggregate-put-2
 slice-aggregate-put-2 c = search needs
@@ -25,9 +26,9 @@ same-length c = search needs
 returns : tie.Need-returns
 returns c =
     let word = c .before .before .before .before .before .before .before .before .before .before .before .put in
-    let number = c .before .before .before .before .before .before .before .put-decimal in
+    let number = c .before .before .before .before .before .before .before .put-number in
     let ends = c .before .before .put2 in
-    and-then (and-then (word .ensures) (number .ensures .0)) (ends .ensures)
+    (and-then (and-then (word .ensures) (number .ensures .0)) (ends .ensures), omega (arith, word .ensures .place, number .ensures .1, ends .ensures .place))
 
 pub put-end-spec : {M : Type 1} → statement M
 put-end-spec =
@@ -35,7 +36,7 @@ put-end-spec =
     (tie.spec
     slice-aggregate-put
     put-requires
-    put-decimal-requires
+    put-number-requires
     slice-aggregate-put-2
     put-requires-2
     same-length

@@ -1,4 +1,4 @@
--- `text::stayed` meets its contract: the bytes passed stayed, so the answer is that of the bytes left. The measure is the number of bytes left.
+-- `text::all_before` meets its contract: the bytes passed stayed, so the answer is that of the bytes left. The measure is the number of bytes left.
 -- Assumes nothing.
 use Prim.Native.Nat.{_-_}
 use mathlib.Core.Path.{_≡_, refl, sym, ap, _∙_}
@@ -6,8 +6,8 @@ use native.Mathlib.Omega.{arith}
 use lib.ListN.{length, drop, drop-of-length-le}
 use Rattle.text.specs.Line.{allBefore}
 use Rattle.text.proofs.Line.{one-stayed, one-changed}
-use Rattle.text.proofs.stayed.Statement.{statement}
-use Rattle.text.proofs.stayed.Tie as tie
+use Rattle.text.proofs.all_before.Statement.{statement}
+use Rattle.text.proofs.all_before.Tie as tie
 
 abbrev Inv-loop : tie.InvT-loop
 Inv-loop lent written i₀ i = allBefore (drop i lent) ≡ allBefore (drop written lent)
@@ -42,8 +42,8 @@ returns-2 c =
     let l = c .before .loop in
     sym (ap allBefore (drop-of-length-le (c .before .before .args .lent .now) {i = l .i} (omega arith))) ∙ l .inv
 
-pub stayed-spec : {M : Type 1} → statement M
-stayed-spec =
+pub all-before-spec : {M : Type 1} → statement M
+all-before-spec =
     tie.close
     (tie.spec
     Inv-loop

@@ -1,8 +1,8 @@
--- `text::choose` meets its contract. Assumes nothing.
+-- `text::chosen_of` meets its contract. Assumes nothing.
 use Rattle.text.specs.Text.{chosenOf}
 use borrow.Author.Needs.{needs}
-use Rattle.text.proofs.choose.Statement.{statement}
-use Rattle.text.proofs.choose.Tie as tie
+use Rattle.text.proofs.chosen_of.Statement.{statement}
+use Rattle.text.proofs.chosen_of.Tie as tie
 
 same-word-requires : tie.Need-same-word-requires
 same-word-requires c κs = search needs
@@ -24,5 +24,5 @@ unfolding chosenOf
 returns-3 c =
     search (← (c .before .before .before .same-word .ensures), c .before .before .if1 .left, ← (c .before .same-word2 .ensures), c .if2 .left)
 
-pub choose-spec : {M : Type 1} → statement M
-choose-spec = tie.close (tie.spec same-word-requires returns same-word-requires-2 returns-2 returns-3)
+pub chosen-of-spec : {M : Type 1} → statement M
+chosen-of-spec = tie.close (tie.spec same-word-requires returns same-word-requires-2 returns-2 returns-3)

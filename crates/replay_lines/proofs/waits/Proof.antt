@@ -1,9 +1,9 @@
--- `replay_lines::waiting` meets its contract. Assumes nothing.
+-- `replay_lines::waits` meets its contract. Assumes nothing.
 use Rattle.rules.proofs.Tests.{tests}
 use Rattle.pieces.specs.Pieces.{waits}
 use borrow.Author.Needs.{needs}
-use Rattle.replay_lines.proofs.waiting.Statement.{statement}
-use Rattle.replay_lines.proofs.waiting.Tie as tie
+use Rattle.replay_lines.proofs.waits.Statement.{statement}
+use Rattle.replay_lines.proofs.waits.Tie as tie
 
 returns : tie.Need-returns
 unfolding waits
@@ -20,5 +20,5 @@ returns-3 : tie.Need-returns-3
 unfolding waits
 returns-3 c = search (tests, c .before .before .if1 .left, ← (c .before .low .ensures), c .if2 .left)
 
-pub waiting-spec : {M : Type 1} → statement M
-waiting-spec = tie.close (tie.spec returns low-requires returns-2 returns-3)
+pub waits-spec : {M : Type 1} → statement M
+waits-spec = tie.close (tie.spec returns low-requires returns-2 returns-3)

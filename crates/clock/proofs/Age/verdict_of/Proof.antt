@@ -1,4 +1,4 @@
--- `clock::Age::judged` meets its contract. Assumes nothing.
+-- `clock::Age::verdict_of` meets its contract. Assumes nothing.
 use borrow.Author.Needs.{needs}
 use mathlib.Core.Path.{sym}
 use native.Mathlib.Omega.{arith}
@@ -6,8 +6,8 @@ use mir.Syntax.{w32}
 use mir.Val.{SFits}
 use Rattle.clock.proofs.Wrapped.{upper, is-below, is-from}
 use Rattle.clock.proofs.Cases.{verdict-future, verdict-late, verdict-fresh}
-use Rattle.clock.proofs.Age.judged.Statement.{statement}
-use Rattle.clock.proofs.Age.judged.Tie as tie
+use Rattle.clock.proofs.Age.verdict_of.Statement.{statement}
+use Rattle.clock.proofs.Age.verdict_of.Tie as tie
 
 returns : tie.Need-returns
 returns c =
@@ -29,5 +29,5 @@ returns-3 c =
     let f : SFits w32 (c .before .before .before .args .self .0) = search needs in
     sym (verdict-fresh _ _ (is-from f (c .before .if1 .left)) (rw (upper f (c .before .if1 .left)) at (c .if2 .left)))
 
-pub judged-spec : {M : Type 1} → statement M
-judged-spec = tie.close (tie.spec returns cast-if2 returns-2 returns-3)
+pub verdict-of-spec : {M : Type 1} → statement M
+verdict-of-spec = tie.close (tie.spec returns cast-if2 returns-2 returns-3)

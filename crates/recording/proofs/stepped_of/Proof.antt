@@ -1,11 +1,11 @@
--- `recording::stepped` meets its contract. Assumes nothing.
+-- `recording::stepped_of` meets its contract. Assumes nothing.
 use Rattle.recording.specs.Progress.{steppedOf}
 use borrow.Author.Needs.{needs}
-use Rattle.recording.proofs.stepped.Statement.{statement}
-use Rattle.recording.proofs.stepped.Tie as tie
+use Rattle.recording.proofs.stepped_of.Statement.{statement}
+use Rattle.recording.proofs.stepped_of.Tie as tie
 
-counted-requires : tie.Need-counted-requires
-counted-requires c κs = search needs
+counted-of-requires : tie.Need-counted-of-requires
+counted-of-requires c κs = search needs
 
 last-answer-requires : tie.Need-last-answer-requires
 last-answer-requires c κs = search needs
@@ -24,11 +24,11 @@ returns-2 : tie.Need-returns-2
 unfolding steppedOf
 returns-2 c = rw (c .before .if1 .left) (cc)
 
-pub stepped-spec : {M : Type 1} → statement M
-stepped-spec =
+pub stepped-of-spec : {M : Type 1} → statement M
+stepped-of-spec =
     tie.close
     (tie.spec
-    counted-requires
+    counted-of-requires
     last-answer-requires
     used-requires
     returns
