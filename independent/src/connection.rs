@@ -4,7 +4,7 @@ use crate::links::Role;
 use crate::message::{self, After, Message};
 use std::ops::Range;
 
-/// Phases: closed; initiator waits for 2, then 4; responder waits for 1, then 3, then 5; open.
+/// The phases, numbered as PHASE-0 to PHASE-6; a wait is named by who waits and for which type.
 pub const CLOSED: u8 = 0;
 pub const INITIATOR_WAITS_2: u8 = 1;
 pub const INITIATOR_WAITS_4: u8 = 2;
@@ -229,8 +229,8 @@ fn gap(record: &Record, number: u16) -> bool {
     2 <= d && d <= record.settings.n
 }
 
-/// A message of the expected type in set-up: 202, 203, 208, 209, 204; every error releases, and
-/// only the initiator's 209 writes a message then.
+/// A message of the expected type in set-up: 202, 203, 208, 209, 204. Each of them releases
+/// (SETUP-ERR), and with none but the 209 of an initiator is a reply written (SETUP-209).
 fn in_set_up(record: Record, now: u32, message: &Message, out: &mut [u8]) -> (Record, Answer) {
     let number_judged = !first_message(record.phase);
     if let Some(fault) = number_fault(&record, message.number).filter(|_| number_judged) {
@@ -262,8 +262,7 @@ fn clock_check(record: &Record, message: &Message) -> bool {
     }
 }
 
-/// All mod 2^32 and centred: max + peer's min is 0; max - min is not negative; the size of
-/// min + peer's max is at most T_off.
+/// The tests EST-1, EST-2 and EST-3, a line each; sums and differences wrap.
 pub fn accepts(record: &Record, peer_min: i32, peer_max: i32) -> bool {
     record.max.wrapping_add(peer_min) == 0
         && record.max.wrapping_sub(record.min) >= 0

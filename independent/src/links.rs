@@ -22,7 +22,7 @@ pub struct State {
     pub last: u16,
 }
 
-/// A fresh state has both links up.
+/// LINK-FRESH: what the first step starts from.
 pub fn fresh(role: Role, strict: bool) -> State {
     State { normal_up: true, redundant_up: true, role, strict, first: true, last: 0 }
 }
@@ -36,7 +36,7 @@ pub struct Step<'a> {
     pub packet: Option<Packet<'a>>,
 }
 
-/// A link's bytes from its place on; a place past the end holds no bytes.
+/// A link's bytes from its place on, none where that lies behind the end (LINK-PAST).
 pub fn rest(bytes: &[u8], place: usize) -> &[u8] {
     &bytes[place.min(bytes.len())..]
 }

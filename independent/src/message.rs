@@ -9,7 +9,7 @@ pub const APPLICATION: u8 = 6;
 
 /// Type 1, number 2, sender stamp 4, last peer stamp 4, own count at its arrival 4.
 pub const HEADER: usize = 15;
-/// The whole message is at most 1,000 bytes.
+/// No message is longer (MSG-TOTAL).
 pub const MOST: usize = 1000;
 pub const DATA_MOST: usize = MOST - HEADER;
 

@@ -26,8 +26,8 @@ pub struct Call<'a> {
     pub bytes: &'a [u8],
 }
 
-/// The record at the start of a trace's rest and the rest after it; None is `bad`: a wrong mark,
-/// unknown kind, length over 1,000 or cut record.
+/// The record at the start of a trace's rest and the rest after it; None where the record is `bad`
+/// (TRACE-8 to TRACE-11).
 pub fn record_of(rest: &[u8]) -> Option<(Call<'_>, &[u8])> {
     let header = rest.get(..HEADER)?;
     let length = usize::from(u16::from_be_bytes([header[8], header[9]]));
@@ -72,7 +72,7 @@ pub fn begin_of(bytes: &[u8]) -> Begin {
     }
 }
 
-/// One call on the table; a tick's or close's bytes are ignored.
+/// One call on the table. Ticks and closes pass no bytes on (TRACE-7).
 pub fn play(records: &mut [Record], call: &Call, out: &mut [u8]) -> Answer {
     let slot = usize::from(call.slot);
     match call.kind {

@@ -411,7 +411,7 @@ fn set_up_rows(tests: &mut Tests) {
 fn waits(tests: &mut Tests) {
     let start = |number| msg(number, 1, 0, 0, After::Start { period: 0 });
     let (record, _, _) = begun(Role::Responder, SET, 100);
-    tests.equal("the responder's wait for 1 has no timer", connection::tick(record, 2_000_000_000).1.number, 0);
+    tests.equal("no tick ends the wait for type 1", connection::tick(record, 2_000_000_000).1.number, 0);
     tests.equal("and takes a message then", received(record, 2_000_000_000, &start(1)).1.number, 0);
     for (record, began) in [
         (begun(Role::Initiator, SET, 4_294_967_000).0, 4_294_967_000_u32), (initiator_waits_4(SET), 1080), (responder_waits_3(SET), 200), (responder_waits_5(SET), 260),

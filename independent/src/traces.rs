@@ -188,7 +188,7 @@ impl World<'_> {
         }
     }
 
-    /// A `bad` record: a wrong mark, unknown kind, length over 1,000, or one that is cut.
+    /// A record that is `bad`, in one of the four ways of TRACE-8 to TRACE-11.
     fn spoil(&mut self) {
         let good = replay::bytes_of(&Call { kind: TICK, slot: 0, now: 5, bytes: &[1, 2, 3] });
         let mut bad = good.clone();
