@@ -16,7 +16,7 @@ use Rattle.link_promises.proofs.Forward.{goes-forward}
 use Rattle.text.specs.Line.{endOf}
 use Rattle.recording.specs.Printed.{lineOf}
 use Rattle.recording.specs.Progress.{lastAnswer}
-use Rattle.recording.specs.Cut.{Reach, reachedBy, stepFrom, cutIn, mostSteps, cutFrom, GoesOn}
+use Rattle.recording.specs.Cut.{Reach, reachedBy, takenFrom, cutIn, mostSteps, cutFrom, GoesOn}
 
 -- an answer that is not the last is neither 301 nor 308
 not-301 : (n : ℕ) → lastAnswer n ≡ false → n ≡ 301 → ⊥
@@ -49,10 +49,10 @@ module _ (normal redundant : List ℕ) where
   none-used false n r used h = omega arith
 
   -- after a step but the last fewer are left
-  fewer-left : (x : Reach) → lastAnswer (stepFrom normal redundant x .answer) ≡ false
-      → mostSteps normal redundant (reachedBy (stepFrom normal redundant x) x) < mostSteps normal redundant x
+  fewer-left : (x : Reach) → lastAnswer (takenFrom normal redundant x .answer) ≡ false
+      → mostSteps normal redundant (reachedBy (takenFrom normal redundant x) x) < mostSteps normal redundant x
   fewer-left x e =
-      let t = stepFrom normal redundant x in
+      let t = takenFrom normal redundant x in
       ⊎-elim (λ bytes. omega (arith, used-up (t .normal) (x .normal) (x .redundant) (t .used) (bytes .1) (bytes .0), bytes .2))
       (λ down. omega (arith, none-used (t .normal) (x .normal) (x .redundant) (t .used) (down .0), down .1))
       (goes-forward normal (x .normal) redundant (x .redundant) (x .state) (not-308 (t .answer) e) (not-301 (t .answer) e))
@@ -63,7 +63,7 @@ module _ (normal redundant : List ℕ) where
   enough zero m x h g = let none : ⊥ = omega arith in absurd none
   enough (suc n) zero x h g = let none : ⊥ = omega arith in absurd none
   enough (suc n) (suc m) x h g =
-      let t = stepFrom normal redundant x in
+      let t = takenFrom normal redundant x in
       ap (λ (l : List ℕ). lineOf t ++ l)
       (goes-alike (lastAnswer (t .answer)) (endOf (reachedBy t x .handedUp)) (λ e.
       let fewer = fewer-left x e in
@@ -72,7 +72,7 @@ module _ (normal redundant : List ℕ) where
   pub goes-on : GoesOn normal redundant
   unfolding cutIn
   goes-on x =
-      let t = stepFrom normal redundant x in
+      let t = takenFrom normal redundant x in
       ap (λ (l : List ℕ). lineOf t ++ l)
       (goes-alike (lastAnswer (t .answer)) (endOf (reachedBy t x .handedUp)) (λ e.
       let fewer = fewer-left x e in

@@ -20,7 +20,7 @@ use Rattle.link_promises.proofs.Alike.{sees-no-more-than-a-packet, buffer-seen-
 use Rattle.text.specs.Line.{endOf}
 use Rattle.recording.specs.Printed.{heading, lineOf}
 use Rattle.recording.specs.Progress.{takenAt, lastAnswer, countedOf, steppedOf, Lies}
-use Rattle.recording.specs.Cut.{Reach, reachedBy, stepFrom, cutFrom, cutOf, startFrom}
+use Rattle.recording.specs.Cut.{Reach, reachedBy, takenFrom, cutFrom, cutOf, startFrom}
 use Rattle.recording.specs.Whole.{Follows, reachOf, reached, StepsAsWhole, Reads, ReadsFollow, Cuts, PiecesAsWhole}
 use Rattle.recording.specs.Whole.Reads.{stays, refills}
 use Rattle.recording.specs.Whole.Cuts.{starts, reads, steps}
@@ -139,7 +139,7 @@ module _ (state : State) (normalFile redundantFile : List ℕ) where
   prints (steps {normal} {redundant} {p} {normalToRead} {redundantToRead} {printed} run goes highNormal highRedundant) =
       let was = prints run in
       let x = reachOf (was .normalPlace) (was .redundantPlace) p in
-      let t = stepFrom normalFile redundantFile x in
+      let t = takenFrom normalFile redundantFile x in
       let after = steppedOf (takenAt normal redundant p) p in
       let whole = steps-as-whole normalFile (was .normalPlace) redundantFile (was .redundantPlace) normal redundant p normalToRead redundantToRead (was .lies) (was .follows-normal) (was .follows-redundant) highNormal highRedundant in
       let used = uses normal redundant p (was .lies) refl in

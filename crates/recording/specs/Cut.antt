@@ -37,16 +37,16 @@ reachedBy taken x = record {
 
 module _ (normal redundant : List ℕ) where
   -- the step over the whole files
-  abbrev pub stepFrom : Reach → Taken
-  stepFrom x = takenOf normal (x .normal) redundant (x .redundant) (x .state)
+  abbrev pub takenFrom : Reach → Taken
+  takenFrom x = takenOf normal (x .normal) redundant (x .redundant) (x .state)
 
   -- what is printed in so many steps at the most: the line of each, and behind that of a step which answers 301 or 308 the last line
   unfoldable pub cutIn : ℕ → Reach → List ℕ
   cutIn zero x = []
   cutIn (suc steps) x =
-      lineOf (stepFrom x) ++ (
-      when lastAnswer (stepFrom x .answer) answer endOf (reachedBy (stepFrom x) x .handedUp) else
-      cutIn steps (reachedBy (stepFrom x) x))
+      lineOf (takenFrom x) ++ (
+      when lastAnswer (takenFrom x .answer) answer endOf (reachedBy (takenFrom x) x .handedUp) else
+      cutIn steps (reachedBy (takenFrom x) x))
 
   -- the most steps before the last one: each uses a byte at the least or puts a link down
   abbrev pub mostSteps : Reach → ℕ
@@ -58,9 +58,9 @@ module _ (normal redundant : List ℕ) where
 
   -- They are enough: the cutting goes on after each step but the last.
   abbrev pub GoesOn : Type 0
-  GoesOn = (x : Reach) → cutFrom x ≡ lineOf (stepFrom x) ++ (
-      when lastAnswer (stepFrom x .answer) answer endOf (reachedBy (stepFrom x) x .handedUp) else
-      cutFrom (reachedBy (stepFrom x) x))
+  GoesOn = (x : Reach) → cutFrom x ≡ lineOf (takenFrom x) ++ (
+      when lastAnswer (takenFrom x .answer) answer endOf (reachedBy (takenFrom x) x .handedUp) else
+      cutFrom (reachedBy (takenFrom x) x))
 
 -- what `cut` prints for two files, with the state that the steps start from
 abbrev pub cutOf : State → List ℕ → List ℕ → List ℕ

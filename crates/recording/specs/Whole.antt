@@ -15,7 +15,7 @@ use Rattle.links.specs.declared.Taken.{Taken}
 use Rattle.text.specs.Line.{endOf}
 use Rattle.recording.specs.Printed.{heading, lineOf, mostLine}
 use Rattle.recording.specs.Progress.{startOf, windowed, takenAt, lastAnswer, steppedOf, Lies, AdvancedTo}
-use Rattle.recording.specs.Cut.{Reach, reachedBy, stepFrom, cutOf}
+use Rattle.recording.specs.Cut.{Reach, reachedBy, takenFrom, cutOf}
 use Rattle.recording.specs.declared.Progress.{Progress}
 use Rattle.recording.specs.declared.Advanced.{Advanced}
 
@@ -33,7 +33,7 @@ module _ (normalFile : List ℕ) (normalPlace : ℕ) (redundantFile : List ℕ) 
     (p : Progress) where
   -- the step over the whole files, and the reach after it:
   abbrev pub whole : Taken
-  whole = stepFrom normalFile redundantFile (reachOf normalPlace redundantPlace p)
+  whole = takenFrom normalFile redundantFile (reachOf normalPlace redundantPlace p)
 
   abbrev pub reached : Reach
   reached = reachedBy whole (reachOf normalPlace redundantPlace p)
