@@ -5,6 +5,8 @@ import os
 import re
 
 Function = collections.namedtuple("Function", "crate module owner name public head body")
+Definition = collections.namedtuple("Definition", "name line above within")
+DEFINITION = re.compile(r"(\s*)(?:(?:unfoldable|abbrev) pub|pub record|pub data) (\S+)")
 
 
 def crates():
@@ -97,6 +99,30 @@ def names():
         for name in given_by(path):
             given[name].add("/".join(path[:-5].split("/")[1:]))
     return given
+
+
+# The definitions, records and types of a file of specs, each with its line and its comments. The one above stands directly over it, its fixity perhaps
+# between, or over its group: a comment that ends with a colon, and a heading (`-- ---- ..`), stand for all below them up to the next comment. Those
+# within stand deeper than the definition itself.
+def definitions_of(path):
+    made, comment, group, directly, going_on, deep = [], [], False, False, False, 0
+    for at, line in enumerate(open(path).read().splitlines(), 1):
+        text, found = line.strip(), DEFINITION.match(line)
+        if text.startswith("--"):
+            comment = comment + [text] if going_on else [text]
+            group, directly, going_on = text.endswith(":") or text.startswith("-- ----"), True, True
+            if made and deep is not None and len(line) - len(line.lstrip()) > deep:
+                made[-1].within.append(text)
+            continue
+        going_on = False
+        if found:
+            deep = len(found[1])
+            made.append(Definition(found[2], at, comment if directly or group else [], []))
+        elif line.startswith("module "):
+            # what stands deeper now is in the module
+            deep = None
+        directly = directly and text.startswith("infix")
+    return made
 
 
 # The wrong programs that are kept: in the gate, and beside it.
