@@ -103,7 +103,7 @@ def names():
 
 # The definitions, records and types of a file of specs, each with its line and its comments. The one above stands directly over it, its fixity perhaps
 # between, or over its group: a comment that ends with a colon, and a heading (`-- ---- ..`), stand for all below them up to the next comment. Those
-# within stand deeper than the definition itself.
+# within stand deeper than the definition itself, or at the end of one of its lines.
 def definitions_of(path):
     made, comment, group, directly, going_on, deep = [], [], False, False, False, 0
     for at, line in enumerate(open(path).read().splitlines(), 1):
@@ -121,6 +121,8 @@ def definitions_of(path):
         elif line.startswith("module "):
             # what stands deeper now is in the module
             deep = None
+        if made and " -- " in line:
+            made[-1].within.append(line[line.index(" -- "):].strip())
         directly = directly and text.startswith("infix")
     return made
 

@@ -70,7 +70,7 @@ def fields_of(text, known):
     return given
 
 
-# The check of a header, bit by bit: least significant bit of each byte first, register all ones at first, highest term in the lowest bit.
+# The check of a header, bit by bit: of each byte its lowest bit goes in first; the register is all ones before, and has the highest term in its lowest bit.
 def check_of(header):
     register = 0xFFFF
     for byte in header:

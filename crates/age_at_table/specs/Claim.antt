@@ -41,7 +41,7 @@ pub record ClaimAtTable (W : World) (began : W .Moment) (j role : ℕ) (settings
   pub byte-handed-up : (first : Ours W) → Written W 0 first log → trueAge W (m .sent) u + settings .e + j + transit W first < 2 ^ 31
       → 0 < a .delivered → pos (trueAge W (m .sent) u) ≤ℤ (pos (settings .«t_max») -ℤ pos (settings .e) +ℤ pos j -ℤ pos (transit W first))
 
--- the next call of a run is a receive on an open slot; any out buffer, and any bytes that are a message
+-- DEMAND-3: the next call of a run is a receive on an open slot; any out buffer, and any bytes that are a message
 abbrev pub Demand3AtTable : Type 1
 Demand3AtTable =
     (W : World) (began : W .Moment) (j slot role : ℕ) (settings : Settings) (t : W .Moment) (table : List Connection) (run : Run W t table)

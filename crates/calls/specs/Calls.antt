@@ -42,7 +42,7 @@ use Rattle.calls.specs.declared.Called.{Called}
 -- ---- the caller's faults of each call, in CALL-ORDER: the number of the first, 0 where there is none
 
 infixr 1 _then_
--- the faults of one list, then those of the next
+-- CALL-ORDER: the faults of one list, then those of the next
 abbrev pub _then_ : ℕ → ℕ → ℕ
 k then rest = when eqb k 0 answer rest else k
 

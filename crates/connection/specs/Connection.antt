@@ -131,7 +131,7 @@ counted c errors = ofParts (c .phase) (c .settings) (c .own) (c .peer) (c .«wai
 abbrev pub heardOf : Header → Count → Peer
 heardOf h now = record { number = h .number; stamp = h .stamp; arrival = now }
 
--- heard from the peer
+-- ERR-6: heard from the peer
 abbrev pub heard : Connection → Header → Count → Connection
 heard c h now = ofParts (c .phase) (c .settings) (c .own) (heardOf h now) (c .«wait_start») (c .offsets) (c .errors) (c .clock)
 
@@ -139,7 +139,7 @@ heard c h now = ofParts (c .phase) (c .settings) (c .own) (heardOf h now) (c .«
 abbrev pub oneMore : Own → Own
 oneMore own = record { number = nextOf (own .number); period = own .period }
 
--- sent by us
+-- NUMBER-1: sent by us
 abbrev pub sent : Connection → Connection
 sent c = ofParts (c .phase) (c .settings) (oneMore (c .own)) (c .peer) (c .«wait_start») (c .offsets) (c .errors) (c .clock)
 

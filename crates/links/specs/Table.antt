@@ -29,7 +29,7 @@ lengthFault length = ltb length leastLength || ltb mostLength length
 unfoldable pub judgeable : List ℕ → ℕ → Bool
 judgeable s at = leb (at + lengthSize) (length s) && (lengthFault (lengthAt s at) || leb (at + packetSize (lengthAt s at)) (length s))
 
--- LINK-301: such bytes on a link that is up
+-- LINK-LOOK, LINK-301: such bytes on a link that is up
 abbrev pub held : Bool → List ℕ → ℕ → Bool
 held up s at = up && judgeable s at
 
@@ -54,8 +54,8 @@ notLater kind d = opens kind || eqb d 0 || leb behindFrom d
 unfoldable pub tooFar : Bool → ℕ → Bool
 tooFar strict d = strict && leb 2 d
 
--- LINK-308, LINK-301, LINK-302, LINK-303, LINK-304: the rows of either class. `found`: a link that is up has such bytes. The link
--- looked at is the normal one or not, with the bytes s and the place at. `rest` is what the rows of the packet's class give.
+-- LINK-308, LINK-301, LINK-302, LINK-303, LINK-304: the rows of either class, in LINK-ORDER. `found`: a link that is up has such bytes.
+-- The link looked at is the normal one or not, with the bytes s and the place at. `rest` is what the rows of the packet's class give.
 unfoldable pub linkRows : Bool → Bool → List ℕ → ℕ → State → Taken → Taken
 linkRows found normal s at state rest =
     when (bothDown state) answer nothingChanges 308 state else
@@ -65,8 +65,8 @@ linkRows found normal s at state rest =
     when (not (eqb (packetHeaderAt s at .flag) (flagOf normal))) answer linkDown 304 normal state else
     rest
 
--- LINK-305, LINK-309, LINK-306, LINK-307, LINK-0: the rows of class D, of the packet at a place with its header and its user data.
--- d is of later packets: before the first there is no number last handed up (LINK-FIRST).
+-- LINK-305, LINK-309, LINK-306, LINK-307, LINK-0: the rows of class D, in LINK-ORDER, of the packet at a place with its header and its
+-- user data. d is of later packets: before the first there is no number last handed up (LINK-FIRST).
 unfoldable pub classDRows : Bool → ℕ → Header → List ℕ → State → Taken
 classDRows normal at header userData state =
     when (not (inClassD (header .kind))) answer dropped 305 normal header state else

@@ -63,11 +63,11 @@ nothingChanges answer state = emptyPart answer true 0 state
 abbrev pub linkDown : ℕ → Bool → State → Taken
 linkDown answer normal state = emptyPart answer normal 0 (downOf normal state)
 
--- LINK-305, LINK-309, LINK-306, LINK-307: used and dropped
+-- LINK-305, LINK-309, LINK-306, LINK-307: used and dropped; LINK-USED: as many bytes as the packet has
 abbrev pub dropped : ℕ → Bool → Header → State → Taken
 dropped answer normal header state = emptyPart answer normal (packetSize (header .length)) state
 
--- LINK-0: handed up, and its number remembered; the user data stands behind the header
+-- LINK-0: handed up, and its number remembered; the user data stands behind the header; LINK-USED: as many bytes as the packet has
 abbrev pub handedUp : Bool → ℕ → Header → State → Taken
 handedUp normal at header state = record {
   answer = 0;

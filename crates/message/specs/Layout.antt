@@ -56,19 +56,19 @@ noOffset = record { 0 = pos 0 }
 abbrev pub periodTail : ℕ → Tail
 periodTail period = tail period noOffset noOffset 0 0
 
--- MSG-3: nothing
+-- MSG-3: nothing (MSG-FIELDS)
 abbrev pub emptyTail : Tail
 emptyTail = tail 0 noOffset noOffset 0 0
 
--- MSG-4: min and max
+-- MSG-4: min and max (MSG-FIELDS)
 abbrev pub offsetsTail : Offset → Offset → Tail
 offsetsTail min max = tail 0 min max 0 0
 
--- MSG-5: the check byte
+-- MSG-5: the check byte (MSG-FIELDS)
 abbrev pub checkTail : ℕ → Tail
 checkTail check = tail 0 noOffset noOffset check 0
 
--- MSG-6: how many bytes of application data
+-- MSG-6: how many bytes of application data (MSG-FIELDS)
 abbrev pub dataTail : ℕ → Tail
 dataTail n = tail 0 noOffset noOffset 0 n
 

@@ -19,7 +19,7 @@ use Rattle.message.specs.declared.After.the-variants.{Period, Nothing, Offsets,
 abbrev pub headerBytes : Header → List ℕ
 headerBytes h = rowOf headerWidths (headerFields h)
 
--- MSG-SIGN: an offset's bytes
+-- MSG-SIGN: an offset's bytes, of which NUM-15 is one
 abbrev pub offsetBytes : Offset → List ℕ
 offsetBytes offset = rowOf offsetWidths (offsetFields offset)
 

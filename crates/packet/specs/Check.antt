@@ -35,6 +35,6 @@ bytesIn register (byte ∷ bytes) = bytesIn (byteIn register byte) bytes
 abbrev pub allOnes : ℕ
 allOnes = 2 ^ 16 - 1
 
--- PKT-CHECK: the check of bytes
+-- PKT-CHECK: the check of bytes; PKT-ANNEX: by the clause, so not what the annex gives for its examples
 abbrev pub checkOf : List ℕ → ℕ
 checkOf bytes = bytesIn allOnes bytes

@@ -27,7 +27,7 @@ packetHeaderFrom fields = record {
   check = getD fields 6 0;
 }
 
--- PKT-LAYOUT: the header of the packet that stands at a place of a link's bytes
+-- PKT-LAYOUT: the header of the packet that stands at a place of a link's bytes; PKT-KEPT: with whatever version and application type
 abbrev pub packetHeaderAt : List ℕ → ℕ → Header
 packetHeaderAt s at = packetHeaderFrom (fieldsOf packetWidths s at)
 

@@ -26,7 +26,7 @@ mostLength = leastLength + mostUserData
 abbrev pub packetSize : ℕ → ℕ
 packetSize length = length + lengthSize
 
--- PKT-LEN: the most bytes of a packet, 1,034
+-- PKT-LEN: the most bytes of a packet, 1,034; LINK-SEEN: a step sees no more of a link
 abbrev pub mostPacket : ℕ
 mostPacket = packetSize mostLength
 

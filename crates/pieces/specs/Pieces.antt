@@ -117,8 +117,8 @@ pub record Running (m : Machine) (buffer : List ℕ) (w : Window) (p : m .State)
   pub written : List ℕ
   pub runs : (rest : List ℕ) → (w .ended ≡ true → rest ≡ []) → Runs m (read ++ rest) buffer w rest p (written ++ take at out)
 
--- At the end: what was written and what the out buffer holds is what is printed for the bytes that were read. Which bytes and which text
--- these are is not said of a program: no contract can speak of what is read from a file or written to one.
+-- TRACE-16, at the end: what was written and what the out buffer holds is what is printed for the bytes that were read. Which bytes and
+-- which text these are is not said of a program: no contract can speak of what is read from a file or written to one.
 pub record PrintedWhole (m : Machine) (out : List ℕ) (at : ℕ) : Type 0 where
   pub read : List ℕ
   pub written : List ℕ

@@ -41,7 +41,8 @@ pub data Run : List Header → Connection → Type 0 where
   called : {log : List Header} {c : Connection} → Run log c → (call : Call) (now : Count) (lent : List ℕ) (room : ℕ)
       → Run (logAfter call c lent (outcomeOf call c now lent room) log) (outcomeOf call c now lent room .next)
 
--- the exchange, the newest message first: type 1, and each one's type is the next, and it echoes the stamp of the one before (ECHO-1)
+-- SHUT-4: the exchange, the newest message first: type 1, and each one's type is the next, with the stamp of the one before echoed
+-- (ECHO-1)
 pub data Exchange : List Header → Type 0 where
   first : (h : Header) → h .kind ≡ offsetStart → Exchange (h ∷ [])
   next : (h g : Header) (log : List Header) → Exchange (g ∷ log) → h .kind ≡ suc (g .kind) → h .«last_peer_stamp» .0 ≡ g .stamp .0

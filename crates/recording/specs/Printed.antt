@@ -7,7 +7,7 @@ use Rattle.text.specs.Ascii.{ascii}
 use Rattle.text.specs.Line.{numberWord, mostNumber}
 use Rattle.links.specs.declared.Taken.{Taken}
 
--- the first line
+-- CUT-1: the first line
 abbrev pub heading : List ℕ
 heading = ascii "link answer used type number data\n"
 
@@ -19,13 +19,13 @@ linkName normal = cond normal (ascii "normal") (ascii "redundant")
 abbrev pub handedUpText : ℕ → ℕ → ℕ → List ℕ
 handedUpText kind number size = numberWord kind ++ numberWord number ++ numberWord size ++ ascii "\n"
 
--- link answer used type number data
+-- CUT-1: link answer used type number data
 abbrev pub lineOf : Taken → List ℕ
 lineOf taken =
     linkName (taken .normal) ++ numberWord (taken .answer) ++ numberWord (taken .used)
     ++ handedUpText (taken .kind) (taken .number) (taken .size)
 
--- the most bytes of a link's name; of three numbers and the end of the line; and of a line, a link's name, two numbers, and those:
+-- CUT-1: the most bytes of a link's name; of three numbers and the end of the line; and of a line, a link's name, two numbers, and those:
 abbrev pub mostLinkName : ℕ
 mostLinkName = 9
 

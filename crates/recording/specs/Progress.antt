@@ -43,7 +43,8 @@ lastAnswer answer = eqb answer 301 || eqb answer 308
 unfoldable pub countedOf : ℕ → ℕ → ℕ
 countedOf handedUp answer = cond (eqb answer 0) (handedUp + 1) handedUp
 
--- the progress after that step: the bytes used of the link it names, its state, and one packet more where one is handed up
+-- the progress after that step: the bytes used of the link it names, its state, and one packet more where one is handed up; CUT-2: whether
+-- it was the last
 unfoldable pub steppedOf : Taken → Progress → Progress
 steppedOf taken p = record {
   normal = cond (taken .normal) (usedOf (taken .used) (p .normal)) (p .normal);

@@ -19,8 +19,8 @@ use Rattle.recording.specs.Cut.{Reach, reachedBy, takenFrom, cutOf}
 use Rattle.recording.specs.declared.Progress.{Progress}
 use Rattle.recording.specs.declared.Advanced.{Advanced}
 
--- A window follows a file from a place: its unread bytes are the file's next ones, behind them come those that are still to be read, and
--- where the file has ended there are none of these.
+-- CUT-3: a window follows a file from a place: its unread bytes are the file's next ones, behind them come those that are still to be read,
+-- and where the file has ended there are none of these.
 pub record Follows (file : List ℕ) (place : ℕ) (buffer : List ℕ) (w : Window) (toRead : List ℕ) : Type 0 where
   pub next : drop place file ≡ unread buffer w ++ toRead
   pub all : w .ended ≡ true → toRead ≡ []
@@ -42,8 +42,8 @@ module _ (normalFile : List ℕ) (normalPlace : ℕ) (redundantFile : List ℕ) 
   abbrev pub after : Progress
   after = steppedOf (takenAt normal redundant p) p
 
-  -- Windows that follow two files and are not low: the line of their step is that of the step over the whole files, and so are the progress
-  -- after it and the places from which the windows follow the files then.
+  -- CUT-3: windows that follow two files and are not low: the line of their step is that of the step over the whole files, and so are the
+  -- progress after it and the places from which the windows follow the files then.
   abbrev pub StepsAsWhole : Type 0
   StepsAsWhole =
       (normalToRead redundantToRead : List ℕ) → Lies p (length normal) (length redundant)

@@ -72,6 +72,6 @@ replay =
       mostText = mostLine;
     }
 
--- what the replay prints for a trace
+-- TRACE-13: what the replay prints for a trace
 abbrev pub replayOf : List ℕ → List ℕ
 replayOf trace = printsFor replay trace

@@ -20,7 +20,7 @@ mostRecords = 64
 unfoldable pub badSlot : ℕ → ℕ → Bool
 badSlot size slot = eqb size 0 || ltb mostRecords size || leb size slot
 
--- that slot's record
+-- TABLE-1: that slot's record
 abbrev pub recordAt : List Connection → ℕ → Connection
 recordAt table slot = getD table slot allZero
 

@@ -16,7 +16,7 @@ use Rattle.trace.specs.declared.Next.the-variants.{End, Bad, Whole}
 abbrev pub widths : List ℕ
 widths = 2 ∷ 1 ∷ 1 ∷ 4 ∷ 2 ∷ []
 
--- the fields by their names, in this order
+-- TRACE-1: the fields by their names, in this order
 abbrev pub named : List ℕ → Record
 named fields = record {
   mark = getD fields 0 0;
@@ -37,7 +37,7 @@ fieldsSize = widthOf widths
 abbrev pub sizeOf : Record → ℕ
 sizeOf r = fieldsSize + r .length
 
--- its bytes
+-- TRACE-1: its bytes
 abbrev pub recordBytes : List ℕ → Record → List ℕ
 recordBytes s r = take (r .length) (drop fieldsSize s)
 

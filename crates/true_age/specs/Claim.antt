@@ -53,7 +53,7 @@ pub record Bounds (true-age e j d : ℕ) (age : ℤ) : Type 0 where
   pub least : (pos true-age +ℤ pos e -ℤ pos j +ℤ pos d) ≤ℤ age
   pub most : age ≤ℤ (pos true-age +ℤ pos e +ℤ pos j +ℤ pos d)
 
--- of one judged message, with E and T_max of the settings: age is the one that receive computes at the record c, and k its answer
+-- DEMAND-3, of one judged message, with E and T_max of the settings: age is the one that receive computes at the record c, and k its answer
 pub record AgeClaim (settings : Settings) (true-age j d : ℕ) (age : ℤ) (c : Connection) (k : ℕ) : Type 0 where
   pub bounds : Bounds true-age (settings .e) j d age
   -- the answer goes by this age

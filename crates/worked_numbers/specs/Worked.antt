@@ -178,7 +178,7 @@ abbrev pub RowHolds : Row → Type 0
 RowHolds (a gives b) = a ≡ b
 
 infixr 20 _and_
--- every row holds
+-- OPEN-4: every row holds
 pub data AllHold : List Row → Type 1 where
   nothing : AllHold []
   _and_ : {row : Row} {rows : List Row} → RowHolds row → AllHold rows → AllHold (row ∷ rows)
