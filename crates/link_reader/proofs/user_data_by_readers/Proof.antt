@@ -62,8 +62,8 @@ stayed = (
 
 module _ {M : Type 1} (𝓤 : URA M) (H : Heap 𝓤) (A : Atoms 𝓤) (mem : Memory → SProp 𝓤) (run : Routine → Fun 𝓤) where
   -- the contract that the proof cites
-  abbrev HandedUp : Contract 𝓤
-  HandedUp = tripleOf 𝓤 H A user-data-from.signature (user-data-from.spec 𝓤 H A mem run)
+  abbrev UserDataFrom : Contract 𝓤
+  UserDataFrom = tripleOf 𝓤 H A user-data-from.signature (user-data-from.spec 𝓤 H A mem run)
 
 module _ {M : Type 1} (𝓤 : URA M) (H : Heap 𝓤) (A : Atoms 𝓤) (W : Given 𝓤 H A) (mem : Memory → SProp 𝓤) (run : Routine → Fun 𝓤) (κ : Lft) (q : Share) (s : RefT (List ℕ)) (m : ℕ) (t : RefT (List ℕ)) (n : ℕ) (taken : Taken) where
   abbrev args : Vals user-data-by-readers.signature (κ, tt)
@@ -89,19 +89,19 @@ module _ {M : Type 1} (𝓤 : URA M) (H : Heap 𝓤) (A : Atoms 𝓤) (W : Given
   abbrev passed : Vals user-data-from.signature (κ, tt)
   passed = (T′.lowered (readerOf s m) ∷ [], (T′.lowered (readerOf t n) ∷ [], (S′.lowered taken ∷ [], tt)))
 
-  abbrev to : HandedUp 𝓤 H A mem run .Ghost
+  abbrev to : UserDataFrom 𝓤 H A mem run .Ghost
   to = (((κ, tt), (q, tt), tt, (readerOf s m, (readerOf t n, (taken, tt))), passed), tt)
 
-  asked : ent 𝓤 (onEntry 𝓤 H A user-data-from.signature (κ, tt) (q, tt) (readerOf s m, (readerOf t n, (taken, tt))) passed) (HandedUp 𝓤 H A mem run .pre to)
+  asked : ent 𝓤 (onEntry 𝓤 H A user-data-from.signature (κ, tt) (q, tt) (readerOf s m, (readerOf t n, (taken, tt))) passed) (UserDataFrom 𝓤 H A mem run .pre to)
   asked = qed W ((‵ (flft κ q) ⊛ ‵ ftrue) ∷ ‵ Passed ∷ []) ∵ join ! $ frame ! $ done !
 
   -- what the parameters own gives what the callee asks, and is kept
   apart : m < 2 ^ 64 → n < 2 ^ 64
-      → ent 𝓤 (onEntry 𝓤 H A user-data-by-readers.signature (κ, tt) (q, tt) (s, (m, (t, (n, (taken, tt))))) args) (sep 𝓤 (HandedUp 𝓤 H A mem run .pre to) (sem 𝓤 H A Kept))
+      → ent 𝓤 (onEntry 𝓤 H A user-data-by-readers.signature (κ, tt) (q, tt) (s, (m, (t, (n, (taken, tt))))) args) (sep 𝓤 (UserDataFrom 𝓤 H A mem run .pre to) (sem 𝓤 H A Kept))
   apart fm fn =
       qed W ((‵ (flft κ q) ⊛ ‵ ftrue) ∷ ‵ Kept ∷ []) ∵
       move ! (1 ∷ []) $ use1 W (‵ Passed ⊛ ‵ Kept) (readers 𝓤 H A W κ s m t n S.the-row taken (S′.lowered taken) twice fm fn) $ split ! $
-      move ! (2 ∷ 0 ∷ []) $ use2 W (raw (HandedUp 𝓤 H A mem run .pre to)) asked $ frame ! $ done !
+      move ! (2 ∷ 0 ∷ []) $ use2 W (raw (UserDataFrom 𝓤 H A mem run .pre to)) asked $ frame ! $ done !
 
   -- of the callee's `ensured`, the clause alone: it has no `&mut`, so what is said of last values is dropped
   said : (r : Slice κ .Denot) → ent 𝓤 (ensured 𝓤 H A user-data-from.ended (user-data-from.clauses 𝓤 H A mem run) (κ, tt) (readerOf s m, (readerOf t n, (taken, tt))) tt r) (fact 𝓤 (Said r))
@@ -113,7 +113,7 @@ module _ {M : Type 1} (𝓤 : URA M) (H : Heap 𝓤) (A : Atoms 𝓤) (W : Given
       suffices ! _ (ends-at 𝓤 H A user-data-by-readers.ended stayed (user-data-by-readers.clauses 𝓤 H A mem run) W (((κ, tt), (q, tt), tt, (s, (m, (t, (n, (taken, tt))))), args), tt) u r (tt, (tt, (tt, (tt, (tt, tt))))) (tt, (tt, (tt, (tt, (tt, tt)))))) $ says ! p $
       move ! (1 ∷ []) $ frame ! $ move ! (1 ∷ []) $ frame ! $ done !
 
-  module _ (C : Calls 𝓤 H) (Λ : Loops 𝓤 H) (fm : FmC 𝓤 H (W .laws) C) (known : Triple 𝓤 (C #link-reader·user-data-from) (HandedUp 𝓤 H A mem run)) where
+  module _ (C : Calls 𝓤 H) (Λ : Loops 𝓤 H) (fm : FmC 𝓤 H (W .laws) C) (known : Triple 𝓤 (C #link-reader·user-data-from) (UserDataFrom 𝓤 H A mem run)) where
     walk : Is (Slice κ) s (valueOf s ∷ []) → m < 2 ^ 64 → Is (Slice κ) t (valueOf t ∷ []) → n < 2 ^ 64
         → Holds (hasTy S′.mir (S′.lowered taken)) × WT (S′.lowered taken)
         → ent 𝓤 (onEntry 𝓤 H A user-data-by-readers.signature (κ, tt) (q, tt) (s, (m, (t, (n, (taken, tt))))) args) (WpFn 𝓤 H C Λ code.function (valueOf s ∷ vint w64 m ∷ valueOf t ∷ vint w64 n ∷ S′.lowered taken ∷ []) Post)
@@ -125,8 +125,8 @@ module _ {M : Type 1} (𝓤 : URA M) (H : Heap 𝓤) (A : Atoms 𝓤) (W : Given
         pass1 ! (init ! 12 refl ws) $ pass1 ! (init ! 10 refl (tt, record { fits = fits-m })) $ pass1 ! (init ! 8 refl wt) $ pass1 ! (init ! 6 refl (tt, record { fits = fits-n })) $ pass1 ! (init ! 4 refl wx) $ pass0 ! $
         assigns ! (agg ! (and-then ! (load ! (from ! (stop !)) (look ! 12 refl)) (and-then ! (load ! (from ! (stop !)) (look ! 10 refl)) (no-more !)))) (from ! (stop !)) (init ! 2 refl (tt, (ws .1, (record { fits = fits-m }, tt)))) $
         assigns ! (agg ! (and-then ! (load ! (from ! (stop !)) (look ! 8 refl)) (and-then ! (load ! (from ! (stop !)) (look ! 6 refl)) (no-more !)))) (from ! (stop !)) (init ! 0 refl (tt, (wt .1, (record { fits = fits-n }, tt)))) $
-        move ! (16 ∷ []) $ use1 W (raw (HandedUp 𝓤 H A mem run .pre to) ⊛ ‵ Kept) (apart fits-m fits-n) $ split ! $
-        calls-at ! fm (HandedUp 𝓤 H A mem run) known to
+        move ! (16 ∷ []) $ use1 W (raw (UserDataFrom 𝓤 H A mem run .pre to) ⊛ ‵ Kept) (apart fits-m fits-n) $ split ! $
+        calls-at ! fm (UserDataFrom 𝓤 H A mem run) known to
         (and-then ! (load ! (from ! (stop !)) (look ! 4 refl)) (and-then ! (load ! (from ! (stop !)) (look ! 2 refl)) (and-then ! (load ! (from ! (stop !)) (look ! 6 refl)) (no-more !)))) (λ u.
         use1 W (later (some (λ (r : Slice κ .Denot). ((‵ (flft κ q) ⊛ ‵ ftrue) ⊛ ‵ (Slice κ .own r (u ∷ []))) ⊛ raw (ensured 𝓤 H A user-data-from.ended (user-data-from.clauses 𝓤 H A mem run) (κ, tt) (readerOf s m, (readerOf t n, (taken, tt))) tt r)))) (id⊢ 𝓤 _) $ await ! tt $ pick ! (λ r.
         split ! $ move ! (1 ∷ []) $ use1 W (raw (fact 𝓤 (Said r))) (said r) $ heard ! (Said r) (λ p. split ! $ move ! (1 ∷ []) $
@@ -138,7 +138,7 @@ module _ {M : Type 1} (𝓤 : URA M) (H : Heap 𝓤) (A : Atoms 𝓤) (W : Given
         move ! (9 ∷ 10 ∷ []) $ free1 ! $ move ! (7 ∷ 8 ∷ []) $ free1 ! $ move ! (5 ∷ 6 ∷ []) $ free1 ! $ move ! (3 ∷ 4 ∷ []) $ free1 ! $ free0 ! $ by ! (exits r u p)))))))))))))
 
 module _ {M : Type 1} (𝓤 : URA M) (H : Heap 𝓤) (A : Atoms 𝓤) (W : Given 𝓤 H A) (mem : Memory → SProp 𝓤) (run : Routine → Fun 𝓤) where
-  user-data-by-readers-walks : (C : Calls 𝓤 H) (Λ : Loops 𝓤 H) → FmC 𝓤 H (W .laws) C → Triple 𝓤 (C #link-reader·user-data-from) (HandedUp 𝓤 H A mem run)
+  user-data-by-readers-walks : (C : Calls 𝓤 H) (Λ : Loops 𝓤 H) → FmC 𝓤 H (W .laws) C → Triple 𝓤 (C #link-reader·user-data-from) (UserDataFrom 𝓤 H A mem run)
       → Walks 𝓤 H A user-data-by-readers.ended stayed (WpFn 𝓤 H C Λ code.function) (user-data-by-readers.clauses 𝓤 H A mem run)
   user-data-by-readers-walks C Λ fm known = walked 𝓤 H A user-data-by-readers.ended stayed (user-data-by-readers.clauses 𝓤 H A mem run) (WpFn 𝓤 H C Λ code.function)
       (λ κs. (slice-vals, (uint-vals w64, (slice-vals, (uint-vals w64, (LL.vals S.the-type S′.the-laws, tt))))))
@@ -147,7 +147,7 @@ module _ {M : Type 1} (𝓤 : URA M) (H : Heap 𝓤) (A : Atoms 𝓤) (W : Given
       (are .0) (are .1 .0 .1) (are .1 .1 .0) (are .1 .1 .1 .0 .1) (LL.lawful S.the-type S′.the-laws 𝓤 H A W .typed (a .1 .1 .1 .1 .0) _ (are .1 .1 .1 .1 .0) .0)))
 
 user-data-by-readers-meets : {M : Type 1} (𝓤 : URA M) (H : Heap 𝓤) (A : Atoms 𝓤) (W : Given 𝓤 H A) (mem : Memory → SProp 𝓤) (run : Routine → Fun 𝓤) (𝓣 : Tables 𝓤 H)
-    → Triple 𝓤 (𝓣 .C #link-reader·user-data-from) (HandedUp 𝓤 H A mem run)
+    → Triple 𝓤 (𝓣 .C #link-reader·user-data-from) (UserDataFrom 𝓤 H A mem run)
     → Meets 𝓤 H A user-data-by-readers.signature (WpFn 𝓤 H (𝓣 .C) (𝓣 .Λ) code.function) (user-data-by-readers.spec 𝓤 H A mem run)
 user-data-by-readers-meets 𝓤 H A W mem run 𝓣 known =
     let slice = goes-none-slice 𝓤 H A W 1 (0 ∷ []) tt (plain (λ _. u8)) yes in
@@ -163,4 +163,4 @@ user-data-by-readers-spec 𝓤 H 𝓜 𝓖 𝓡 =
     entered 𝓤 H (tripleOf 𝓤 H (𝓖 .A) user-data-by-readers.signature (user-data-by-readers.spec 𝓤 H (𝓖 .A) (𝓜 .mem) (𝓡 .run)))
     (tables 𝓤 H 𝓜 𝓡 code.env .C) (tables 𝓤 H 𝓜 𝓡 code.env .Λ) #link-reader·user-data-by-readers code.function (code.unfolded 𝓤 H 𝓜 𝓡)
     (user-data-by-readers-meets 𝓤 H (𝓖 .A) (givenOf 𝓤 H 𝓜 𝓖) (𝓜 .mem) (𝓡 .run) (tablesOf 𝓤 H 𝓜 (tables 𝓤 H 𝓜 𝓡 code.env))
-    (cited 𝓤 H (HandedUp 𝓤 H (𝓖 .A) (𝓜 .mem) (𝓡 .run)) 𝓜 𝓡 code.env #link-reader·user-data-from user-data-from-def.routine code.calls-link-reader·user-data-from (user-data-from-thm.met 𝓤 H 𝓜 𝓖 𝓡)))
+    (cited 𝓤 H (UserDataFrom 𝓤 H (𝓖 .A) (𝓜 .mem) (𝓡 .run)) 𝓜 𝓡 code.env #link-reader·user-data-from user-data-from-def.routine code.calls-link-reader·user-data-from (user-data-from-thm.met 𝓤 H 𝓜 𝓖 𝓡)))
