@@ -60,8 +60,8 @@ stayed = (stay-none B yes, (stay-none B yes, (stay-none (λ _. S.the-row) yes, t
 
 module _ {M : Type 1} (𝓤 : URA M) (H : Heap 𝓤) (A : Atoms 𝓤) (mem : Memory → SProp 𝓤) (run : Routine → Fun 𝓤) where
   -- the contract that the proof cites
-  abbrev TakeAt : Contract 𝓤
-  TakeAt = tripleOf 𝓤 H A take.signature (take.spec 𝓤 H A mem run)
+  abbrev Take : Contract 𝓤
+  Take = tripleOf 𝓤 H A take.signature (take.spec 𝓤 H A mem run)
 
 module _ {M : Type 1} (𝓤 : URA M) (H : Heap 𝓤) (A : Atoms 𝓤) (W : Given 𝓤 H A) (mem : Memory → SProp 𝓤) (run : Routine → Fun 𝓤) (κ : Lft) (q : Share) (d e : LinkReader) (state : State) where
   abbrev args : Vals take-from.signature (κ, tt)
@@ -81,15 +81,15 @@ module _ {M : Type 1} (𝓤 : URA M) (H : Heap 𝓤) (A : Atoms 𝓤) (W : Given
   abbrev passed : Vals take.signature (κ, tt)
   passed = (sliceVal (d .bytes .ptr) (length (d .bytes .now)) ∷ [], (vint w64 (d .at) ∷ [], (sliceVal (e .bytes .ptr) (length (e .bytes .now)) ∷ [], (vint w64 (e .at) ∷ [], (S′.lowered state ∷ [], tt)))))
 
-  abbrev to : TakeAt 𝓤 H A mem run .Ghost
+  abbrev to : Take 𝓤 H A mem run .Ghost
   to = (((κ, tt), (q, tt), tt, (d .bytes, (d .at, (e .bytes, (e .at, (state, tt))))), passed), tt)
 
-  asked : ent 𝓤 (onEntry 𝓤 H A take.signature (κ, tt) (q, tt) (d .bytes, (d .at, (e .bytes, (e .at, (state, tt))))) passed) (TakeAt 𝓤 H A mem run .pre to)
+  asked : ent 𝓤 (onEntry 𝓤 H A take.signature (κ, tt) (q, tt) (d .bytes, (d .at, (e .bytes, (e .at, (state, tt))))) passed) (Take 𝓤 H A mem run .pre to)
   asked = qed W ((‵ (flft κ q) ⊛ ‵ ftrue) ∷ ‵ (owns (ShrSlice (named 0) κ u8 ∷ usize ∷ ShrSlice (named 0) κ u8 ∷ usize ∷ S.the-row ∷ []) (d .bytes, (d .at, (e .bytes, (e .at, (state, tt))))) passed) ∷ []) ∵ join ! $ frame ! $ done !
 
   -- what the parameters own gives what the callee asks, and is kept
   apart : d .at < 2 ^ 64 → e .at < 2 ^ 64 → Is S.the-row state (S′.lowered state ∷ [])
-      → ent 𝓤 (onEntry 𝓤 H A take-from.signature (κ, tt) (q, tt) (d, (e, (state, tt))) args) (sep 𝓤 (TakeAt 𝓤 H A mem run .pre to) (sem 𝓤 H A Kept))
+      → ent 𝓤 (onEntry 𝓤 H A take-from.signature (κ, tt) (q, tt) (d, (e, (state, tt))) args) (sep 𝓤 (Take 𝓤 H A mem run .pre to) (sem 𝓤 H A Kept))
   apart fd fe is =
       qed W ((‵ (flft κ q) ⊛ ‵ ftrue) ∷ ‵ Kept ∷ []) ∵
       move ! (1 ∷ []) $ fsplit ! $ move ! (1 ∷ []) $ fsplit ! $ move ! (1 ∷ []) $ fsplit ! $ move ! (1 ∷ []) $ drop ! $
@@ -100,7 +100,7 @@ module _ {M : Type 1} (𝓤 : URA M) (H : Heap 𝓤) (A : Atoms 𝓤) (W : Given
       owned ! usize (Is usize) (uint-makes 𝓤 H A W w64) (d .at) _ (refl, fd) $ fjoin ! $
       move ! (3 ∷ []) $ use1 W (‵ (BytesOf 𝓤 H A W κ d) ⊛ ‵ (OwnOf 𝓤 H A W κ d)) (sliced 𝓤 H A W κ d) $ split ! $ move ! (0 ∷ 2 ∷ []) $ fjoin ! $
       -- [the callee's parameters; d; e; the state; the token]
-      move ! (4 ∷ 0 ∷ []) $ use2 W (raw (TakeAt 𝓤 H A mem run .pre to)) asked $ frame ! $
+      move ! (4 ∷ 0 ∷ []) $ use2 W (raw (Take 𝓤 H A mem run .pre to)) asked $ frame ! $
       nothing ! $ move ! (3 ∷ 0 ∷ []) $ fjoin ! $ move ! (2 ∷ 0 ∷ []) $ fjoin ! $ move ! (1 ∷ 0 ∷ []) $ fjoin ! $ done !
 
   -- of the callee's `ensured`, the clause alone: it has no `&mut`, so what is said of last values is dropped
@@ -113,7 +113,7 @@ module _ {M : Type 1} (𝓤 : URA M) (H : Heap 𝓤) (A : Atoms 𝓤) (W : Given
       suffices ! _ (ends-at 𝓤 H A take-from.ended stayed (take-from.clauses 𝓤 H A mem run) W (((κ, tt), (q, tt), tt, (d, (e, (state, tt))), args), tt) u r (tt, (tt, (tt, tt))) (tt, (tt, (tt, tt)))) $ says ! p $
       move ! (1 ∷ []) $ frame ! $ move ! (1 ∷ []) $ frame ! $ done !
 
-  module _ (C : Calls 𝓤 H) (Λ : Loops 𝓤 H) (fm : FmC 𝓤 H (W .laws) C) (known : Triple 𝓤 (C #links·take) (TakeAt 𝓤 H A mem run)) where
+  module _ (C : Calls 𝓤 H) (Λ : Loops 𝓤 H) (fm : FmC 𝓤 H (W .laws) C) (known : Triple 𝓤 (C #links·take) (Take 𝓤 H A mem run)) where
     walk : Holds (hasTy (T′.mir (named 0)) (T′.lowered d)) × WT (T′.lowered d) → Holds (hasTy (T′.mir (named 0)) (T′.lowered e)) × WT (T′.lowered e)
         → Holds (hasTy S′.mir (S′.lowered state)) × WT (S′.lowered state) → Is S.the-row state (S′.lowered state ∷ [])
         → ent 𝓤 (onEntry 𝓤 H A take-from.signature (κ, tt) (q, tt) (d, (e, (state, tt))) args) (WpFn 𝓤 H C Λ code.function (T′.lowered d ∷ T′.lowered e ∷ S′.lowered state ∷ []) Post)
@@ -125,8 +125,8 @@ module _ {M : Type 1} (𝓤 : URA M) (H : Heap 𝓤) (A : Atoms 𝓤) (W : Given
         assigns ! (of-opd ! (load ! (from ! (fld ! refl (stop !))) (look-in ! 12 (sub ! 1 refl (whole !))))) (from ! (stop !)) (init ! 4 refl (tt, wd .1 .1 .0)) $
         assigns ! (of-opd ! (load ! (from ! (fld ! refl (stop !))) (look-in ! 10 (sub ! 0 refl (whole !))))) (from ! (stop !)) (init ! 2 refl (tt, we .1 .0)) $
         assigns ! (of-opd ! (load ! (from ! (fld ! refl (stop !))) (look-in ! 10 (sub ! 1 refl (whole !))))) (from ! (stop !)) (init ! 0 refl (tt, we .1 .1 .0)) $
-        move ! (16 ∷ []) $ use1 W (raw (TakeAt 𝓤 H A mem run .pre to) ⊛ ‵ Kept) (apart (wd .1 .1 .0 .fits) (we .1 .1 .0 .fits) is) $ split ! $
-        calls-at ! fm (TakeAt 𝓤 H A mem run) known to
+        move ! (16 ∷ []) $ use1 W (raw (Take 𝓤 H A mem run .pre to) ⊛ ‵ Kept) (apart (wd .1 .1 .0 .fits) (we .1 .1 .0 .fits) is) $ split ! $
+        calls-at ! fm (Take 𝓤 H A mem run) known to
         (and-then ! (load ! (from ! (stop !)) (look ! 8 refl)) (and-then ! (load ! (from ! (stop !)) (look ! 6 refl)) (and-then ! (load ! (from ! (stop !)) (look ! 4 refl)) (and-then ! (load ! (from ! (stop !)) (look ! 2 refl)) (and-then ! (load ! (from ! (stop !)) (look ! 10 refl)) (no-more !)))))) (λ u.
         use1 W (later (some (λ (r : Taken). ((‵ (flft κ q) ⊛ ‵ ftrue) ⊛ ‵ (R.the-row .own r (u ∷ []))) ⊛ raw (ensured 𝓤 H A take.ended (take.clauses 𝓤 H A mem run) (κ, tt) (d .bytes, (d .at, (e .bytes, (e .at, (state, tt))))) tt r)))) (id⊢ 𝓤 _) $ await ! tt $ pick ! (λ r.
         split ! $ move ! (1 ∷ []) $ use1 W (raw (fact 𝓤 (r ≡ found))) (said r) $ heard ! (r ≡ found) (λ p. split ! $ move ! (1 ∷ []) $
@@ -138,7 +138,7 @@ module _ {M : Type 1} (𝓤 : URA M) (H : Heap 𝓤) (A : Atoms 𝓤) (W : Given
         move ! (9 ∷ 10 ∷ []) $ free1 ! $ move ! (7 ∷ 8 ∷ []) $ free1 ! $ move ! (5 ∷ 6 ∷ []) $ free1 ! $ move ! (3 ∷ 4 ∷ []) $ free1 ! $ free0 ! $ by ! (exits r u p)))))))))))))
 
 module _ {M : Type 1} (𝓤 : URA M) (H : Heap 𝓤) (A : Atoms 𝓤) (W : Given 𝓤 H A) (mem : Memory → SProp 𝓤) (run : Routine → Fun 𝓤) where
-  take-from-walks : (C : Calls 𝓤 H) (Λ : Loops 𝓤 H) → FmC 𝓤 H (W .laws) C → Triple 𝓤 (C #links·take) (TakeAt 𝓤 H A mem run)
+  take-from-walks : (C : Calls 𝓤 H) (Λ : Loops 𝓤 H) → FmC 𝓤 H (W .laws) C → Triple 𝓤 (C #links·take) (Take 𝓤 H A mem run)
       → Walks 𝓤 H A take-from.ended stayed (WpFn 𝓤 H C Λ code.function) (take-from.clauses 𝓤 H A mem run)
   take-from-walks C Λ fm known = walked 𝓤 H A take-from.ended stayed (take-from.clauses 𝓤 H A mem run) (WpFn 𝓤 H C Λ code.function)
       (λ κs. (LL.vals (D κs) (L κs), (LL.vals (D κs) (L κs), (LL.vals S.the-type S′.the-laws, tt))))
@@ -148,7 +148,7 @@ module _ {M : Type 1} (𝓤 : URA M) (H : Heap 𝓤) (A : Atoms 𝓤) (W : Given
       (LL.lawful S.the-type S′.the-laws 𝓤 H A W .typed (a .1 .1 .0) _ (are .1 .1 .0) .0) (are .1 .1 .0)))
 
 take-from-meets : {M : Type 1} (𝓤 : URA M) (H : Heap 𝓤) (A : Atoms 𝓤) (W : Given 𝓤 H A) (mem : Memory → SProp 𝓤) (run : Routine → Fun 𝓤) (𝓣 : Tables 𝓤 H)
-    → Triple 𝓤 (𝓣 .C #links·take) (TakeAt 𝓤 H A mem run)
+    → Triple 𝓤 (𝓣 .C #links·take) (Take 𝓤 H A mem run)
     → Meets 𝓤 H A take-from.signature (WpFn 𝓤 H (𝓣 .C) (𝓣 .Λ) code.function) (take-from.spec 𝓤 H A mem run)
 take-from-meets 𝓤 H A W mem run 𝓣 known-take =
     walk-meets 𝓤 H A take-from.ended stayed W
@@ -162,4 +162,4 @@ take-from-spec 𝓤 H 𝓜 𝓖 𝓡 =
     entered 𝓤 H (tripleOf 𝓤 H (𝓖 .A) take-from.signature (take-from.spec 𝓤 H (𝓖 .A) (𝓜 .mem) (𝓡 .run)))
     (tables 𝓤 H 𝓜 𝓡 code.env .C) (tables 𝓤 H 𝓜 𝓡 code.env .Λ) #link-reader·take-from code.function (code.unfolded 𝓤 H 𝓜 𝓡)
     (take-from-meets 𝓤 H (𝓖 .A) (givenOf 𝓤 H 𝓜 𝓖) (𝓜 .mem) (𝓡 .run) (tablesOf 𝓤 H 𝓜 (tables 𝓤 H 𝓜 𝓡 code.env))
-    (cited 𝓤 H (TakeAt 𝓤 H (𝓖 .A) (𝓜 .mem) (𝓡 .run)) 𝓜 𝓡 code.env #links·take take-def.routine code.calls-links·take (take-thm.met 𝓤 H 𝓜 𝓖 𝓡)))
+    (cited 𝓤 H (Take 𝓤 H (𝓖 .A) (𝓜 .mem) (𝓡 .run)) 𝓜 𝓡 code.env #links·take take-def.routine code.calls-links·take (take-thm.met 𝓤 H 𝓜 𝓖 𝓡)))

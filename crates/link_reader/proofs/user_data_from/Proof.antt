@@ -58,8 +58,8 @@ stayed = (stay-none B yes, (stay-none B yes, (stay-none (λ _. S.the-row) yes, t
 
 module _ {M : Type 1} (𝓤 : URA M) (H : Heap 𝓤) (A : Atoms 𝓤) (mem : Memory → SProp 𝓤) (run : Routine → Fun 𝓤) where
   -- the contract that the proof cites
-  abbrev UserDataAt : Contract 𝓤
-  UserDataAt = tripleOf 𝓤 H A user-data.signature (user-data.spec 𝓤 H A mem run)
+  abbrev UserDataOf : Contract 𝓤
+  UserDataOf = tripleOf 𝓤 H A user-data.signature (user-data.spec 𝓤 H A mem run)
 
 module _ {M : Type 1} (𝓤 : URA M) (H : Heap 𝓤) (A : Atoms 𝓤) (W : Given 𝓤 H A) (mem : Memory → SProp 𝓤) (run : Routine → Fun 𝓤) (κ : Lft) (q : Share) (d e : LinkReader) (taken : Taken) where
   abbrev args : Vals user-data-from.signature (κ, tt)
@@ -84,15 +84,15 @@ module _ {M : Type 1} (𝓤 : URA M) (H : Heap 𝓤) (A : Atoms 𝓤) (W : Given
   abbrev passed : Vals user-data.signature (κ, tt)
   passed = (sliceVal (d .bytes .ptr) (length (d .bytes .now)) ∷ [], (sliceVal (e .bytes .ptr) (length (e .bytes .now)) ∷ [], (S′.lowered taken ∷ [], tt)))
 
-  abbrev to : UserDataAt 𝓤 H A mem run .Ghost
+  abbrev to : UserDataOf 𝓤 H A mem run .Ghost
   to = (((κ, tt), (q, tt), tt, (d .bytes, (e .bytes, (taken, tt))), passed), tt)
 
-  asked : ent 𝓤 (onEntry 𝓤 H A user-data.signature (κ, tt) (q, tt) (d .bytes, (e .bytes, (taken, tt))) passed) (UserDataAt 𝓤 H A mem run .pre to)
+  asked : ent 𝓤 (onEntry 𝓤 H A user-data.signature (κ, tt) (q, tt) (d .bytes, (e .bytes, (taken, tt))) passed) (UserDataOf 𝓤 H A mem run .pre to)
   asked = qed W ((‵ (flft κ q) ⊛ ‵ ftrue) ∷ ‵ (owns (Out ∷ Out ∷ S.the-row ∷ []) (d .bytes, (e .bytes, (taken, tt))) passed) ∷ []) ∵ join ! $ frame ! $ done !
 
   -- what the parameters own gives what the callee asks, and is kept
   apart : Is S.the-row taken (S′.lowered taken ∷ [])
-      → ent 𝓤 (onEntry 𝓤 H A user-data-from.signature (κ, tt) (q, tt) (d, (e, (taken, tt))) args) (sep 𝓤 (UserDataAt 𝓤 H A mem run .pre to) (sem 𝓤 H A Kept))
+      → ent 𝓤 (onEntry 𝓤 H A user-data-from.signature (κ, tt) (q, tt) (d, (e, (taken, tt))) args) (sep 𝓤 (UserDataOf 𝓤 H A mem run .pre to) (sem 𝓤 H A Kept))
   apart is =
       qed W ((‵ (flft κ q) ⊛ ‵ ftrue) ∷ ‵ Kept ∷ []) ∵
       move ! (1 ∷ []) $ fsplit ! $ move ! (1 ∷ []) $ fsplit ! $ move ! (1 ∷ []) $ fsplit ! $ move ! (1 ∷ []) $ drop ! $
@@ -101,7 +101,7 @@ module _ {M : Type 1} (𝓤 : URA M) (H : Heap 𝓤) (A : Atoms 𝓤) (W : Given
       move ! (2 ∷ []) $ use1 W (‵ (BytesOf 𝓤 H A W κ e) ⊛ ‵ (OwnOf 𝓤 H A W κ e)) (sliced 𝓤 H A W κ e) $ split ! $ move ! (0 ∷ 2 ∷ []) $ fjoin ! $
       move ! (3 ∷ []) $ use1 W (‵ (BytesOf 𝓤 H A W κ d) ⊛ ‵ (OwnOf 𝓤 H A W κ d)) (sliced 𝓤 H A W κ d) $ split ! $ move ! (0 ∷ 2 ∷ []) $ fjoin ! $
       -- [the callee's parameters; d; e; what was taken; the token]
-      move ! (4 ∷ 0 ∷ []) $ use2 W (raw (UserDataAt 𝓤 H A mem run .pre to)) asked $ frame ! $
+      move ! (4 ∷ 0 ∷ []) $ use2 W (raw (UserDataOf 𝓤 H A mem run .pre to)) asked $ frame ! $
       nothing ! $ move ! (3 ∷ 0 ∷ []) $ fjoin ! $ move ! (2 ∷ 0 ∷ []) $ fjoin ! $ move ! (1 ∷ 0 ∷ []) $ fjoin ! $ done !
 
   -- of the callee's `ensured`, the clause alone: it has no `&mut`, so what is said of last values is dropped
@@ -114,7 +114,7 @@ module _ {M : Type 1} (𝓤 : URA M) (H : Heap 𝓤) (A : Atoms 𝓤) (W : Given
       suffices ! _ (ends-at 𝓤 H A user-data-from.ended stayed (user-data-from.clauses 𝓤 H A mem run) W (((κ, tt), (q, tt), tt, (d, (e, (taken, tt))), args), tt) u r (tt, (tt, (tt, tt))) (tt, (tt, (tt, tt)))) $ says ! p $
       move ! (1 ∷ []) $ frame ! $ move ! (1 ∷ []) $ frame ! $ done !
 
-  module _ (C : Calls 𝓤 H) (Λ : Loops 𝓤 H) (fm : FmC 𝓤 H (W .laws) C) (known : Triple 𝓤 (C #links·user-data-of) (UserDataAt 𝓤 H A mem run)) where
+  module _ (C : Calls 𝓤 H) (Λ : Loops 𝓤 H) (fm : FmC 𝓤 H (W .laws) C) (known : Triple 𝓤 (C #links·user-data-of) (UserDataOf 𝓤 H A mem run)) where
     walk : Holds (hasTy (T′.mir (named 0)) (T′.lowered d)) × WT (T′.lowered d) → Holds (hasTy (T′.mir (named 0)) (T′.lowered e)) × WT (T′.lowered e)
         → Holds (hasTy S′.mir (S′.lowered taken)) × WT (S′.lowered taken) → Is S.the-row taken (S′.lowered taken ∷ [])
         → ent 𝓤 (onEntry 𝓤 H A user-data-from.signature (κ, tt) (q, tt) (d, (e, (taken, tt))) args) (WpFn 𝓤 H C Λ code.function (T′.lowered d ∷ T′.lowered e ∷ S′.lowered taken ∷ []) Post)
@@ -124,8 +124,8 @@ module _ {M : Type 1} (𝓤 : URA M) (H : Heap 𝓤) (A : Atoms 𝓤) (W : Given
         pass1 ! (init ! 8 refl wd) $ pass1 ! (init ! 6 refl we) $ pass1 ! (init ! 4 refl ws) $ pass0 ! $
         assigns ! (of-opd ! (load ! (from ! (fld ! refl (stop !))) (look-in ! 8 (sub ! 0 refl (whole !))))) (from ! (stop !)) (init ! 2 refl (tt, wd .1 .0)) $
         assigns ! (of-opd ! (load ! (from ! (fld ! refl (stop !))) (look-in ! 6 (sub ! 0 refl (whole !))))) (from ! (stop !)) (init ! 0 refl (tt, we .1 .0)) $
-        move ! (12 ∷ []) $ use1 W (raw (UserDataAt 𝓤 H A mem run .pre to) ⊛ ‵ Kept) (apart is) $ split ! $
-        calls-at ! fm (UserDataAt 𝓤 H A mem run) known to
+        move ! (12 ∷ []) $ use1 W (raw (UserDataOf 𝓤 H A mem run .pre to) ⊛ ‵ Kept) (apart is) $ split ! $
+        calls-at ! fm (UserDataOf 𝓤 H A mem run) known to
         (and-then ! (load ! (from ! (stop !)) (look ! 4 refl)) (and-then ! (load ! (from ! (stop !)) (look ! 2 refl)) (and-then ! (load ! (from ! (stop !)) (look ! 6 refl)) (no-more !)))) (λ u.
         use1 W (later (some (λ (r : Out .Denot). ((‵ (flft κ q) ⊛ ‵ ftrue) ⊛ ‵ (Out .own r (u ∷ []))) ⊛ raw (ensured 𝓤 H A user-data.ended (user-data.clauses 𝓤 H A mem run) (κ, tt) (d .bytes, (e .bytes, (taken, tt))) tt r)))) (id⊢ 𝓤 _) $ await ! tt $ pick ! (λ r.
         split ! $ move ! (1 ∷ []) $ use1 W (raw (fact 𝓤 (Said r))) (said r) $ heard ! (Said r) (λ p. split ! $ move ! (1 ∷ []) $
@@ -137,7 +137,7 @@ module _ {M : Type 1} (𝓤 : URA M) (H : Heap 𝓤) (A : Atoms 𝓤) (W : Given
         move ! (5 ∷ 6 ∷ []) $ free1 ! $ move ! (3 ∷ 4 ∷ []) $ free1 ! $ free0 ! $ by ! (exits r u p)))))))))))
 
 module _ {M : Type 1} (𝓤 : URA M) (H : Heap 𝓤) (A : Atoms 𝓤) (W : Given 𝓤 H A) (mem : Memory → SProp 𝓤) (run : Routine → Fun 𝓤) where
-  user-data-from-walks : (C : Calls 𝓤 H) (Λ : Loops 𝓤 H) → FmC 𝓤 H (W .laws) C → Triple 𝓤 (C #links·user-data-of) (UserDataAt 𝓤 H A mem run)
+  user-data-from-walks : (C : Calls 𝓤 H) (Λ : Loops 𝓤 H) → FmC 𝓤 H (W .laws) C → Triple 𝓤 (C #links·user-data-of) (UserDataOf 𝓤 H A mem run)
       → Walks 𝓤 H A user-data-from.ended stayed (WpFn 𝓤 H C Λ code.function) (user-data-from.clauses 𝓤 H A mem run)
   user-data-from-walks C Λ fm known = walked 𝓤 H A user-data-from.ended stayed (user-data-from.clauses 𝓤 H A mem run) (WpFn 𝓤 H C Λ code.function)
       (λ κs. (LL.vals (D κs) (L κs), (LL.vals (D κs) (L κs), (LL.vals S.the-type S′.the-laws, tt))))
@@ -147,7 +147,7 @@ module _ {M : Type 1} (𝓤 : URA M) (H : Heap 𝓤) (A : Atoms 𝓤) (W : Given
       (LL.lawful S.the-type S′.the-laws 𝓤 H A W .typed (a .1 .1 .0) _ (are .1 .1 .0) .0) (are .1 .1 .0)))
 
 user-data-from-meets : {M : Type 1} (𝓤 : URA M) (H : Heap 𝓤) (A : Atoms 𝓤) (W : Given 𝓤 H A) (mem : Memory → SProp 𝓤) (run : Routine → Fun 𝓤) (𝓣 : Tables 𝓤 H)
-    → Triple 𝓤 (𝓣 .C #links·user-data-of) (UserDataAt 𝓤 H A mem run)
+    → Triple 𝓤 (𝓣 .C #links·user-data-of) (UserDataOf 𝓤 H A mem run)
     → Meets 𝓤 H A user-data-from.signature (WpFn 𝓤 H (𝓣 .C) (𝓣 .Λ) code.function) (user-data-from.spec 𝓤 H A mem run)
 user-data-from-meets 𝓤 H A W mem run 𝓣 known-user-data =
     walk-meets 𝓤 H A user-data-from.ended stayed W
@@ -161,4 +161,4 @@ user-data-from-spec 𝓤 H 𝓜 𝓖 𝓡 =
     entered 𝓤 H (tripleOf 𝓤 H (𝓖 .A) user-data-from.signature (user-data-from.spec 𝓤 H (𝓖 .A) (𝓜 .mem) (𝓡 .run)))
     (tables 𝓤 H 𝓜 𝓡 code.env .C) (tables 𝓤 H 𝓜 𝓡 code.env .Λ) #link-reader·user-data-from code.function (code.unfolded 𝓤 H 𝓜 𝓡)
     (user-data-from-meets 𝓤 H (𝓖 .A) (givenOf 𝓤 H 𝓜 𝓖) (𝓜 .mem) (𝓡 .run) (tablesOf 𝓤 H 𝓜 (tables 𝓤 H 𝓜 𝓡 code.env))
-    (cited 𝓤 H (UserDataAt 𝓤 H (𝓖 .A) (𝓜 .mem) (𝓡 .run)) 𝓜 𝓡 code.env #links·user-data-of user-data-def.routine code.calls-links·user-data-of (user-data-thm.met 𝓤 H 𝓜 𝓖 𝓡)))
+    (cited 𝓤 H (UserDataOf 𝓤 H (𝓖 .A) (𝓜 .mem) (𝓡 .run)) 𝓜 𝓡 code.env #links·user-data-of user-data-def.routine code.calls-links·user-data-of (user-data-thm.met 𝓤 H 𝓜 𝓖 𝓡)))
