@@ -1,4 +1,4 @@
--- The register of the check, as loops that count up to m have it: one more bit, one more byte, and none left.
+-- The register of the check, as a loop that counts up to m has it: one more byte, and none left.
 -- Assumes nothing.
 use mathlib.Core.Path.{_≡_, ap, ap₂, _∙_}
 use Prim.Native.Nat.{ℕ, zero, suc, _+_, _-_, _*_, _/_, _%_, _^_, _≤_, _<_}
@@ -15,14 +15,6 @@ one-less m k h = omega arith
 
 none-left : (m k : ℕ) → m ≤ k → m - k ≡ 0
 none-left m k h = omega arith
-
-pub bits-more : (m k r b : ℕ) → k < m → bitsIn (m - k) r b ≡ bitsIn (m - (k + 1)) (bitIn r (b % 2)) (b / 2)
-unfolding bitsIn
-bits-more m k r b h = ap (λ (n : ℕ). bitsIn n r b) (one-less m k h)
-
-pub bits-end : (m k r b : ℕ) → m ≤ k → bitsIn (m - k) r b ≡ r
-unfolding bitsIn
-bits-end m k r b h = ap (λ (n : ℕ). bitsIn n r b) (none-left m k h)
 
 -- of the m bytes from `at` on, k are in
 pub bytes-more : (s : List ℕ) (at m k r : ℕ) → k < m → at + m ≤ length s

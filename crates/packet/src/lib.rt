@@ -3,7 +3,7 @@ ghost use mathlib.Core.Path.{_≡_};
 ghost use Prim.Native.Nat.{_+_, _≤_};
 ghost use lib.ListN.{length};
 ghost use Rattle.packet.specs.Sizes.{packetHeaderSize, leastLength, packetSize, checkedBytes};
-ghost use Rattle.packet.specs.Check.{bitIn, byteIn};
+ghost use Rattle.packet.specs.Check.{byteIn};
 ghost use Rattle.packet.specs.Packet.{packetHeaderAt, checkAt, userDataAt, userDataPlaceAt, flagOf};
 
 // PKT-LAYOUT: the bytes after this field, version, application type, transport number, N/R flag, packet type, check.
@@ -35,39 +35,26 @@ const NORMAL_FLAG: u8 = 1;
 
 const REDUNDANT_FLAG: u8 = 0;
 
-// PKT-CHECK: over so many bytes; the register at first; of x^16+x^12+x^5+1 the terms that stay in it, the highest term lowest.
+// PKT-CHECK: over so many bytes; the register at first.
 pub const CHECKED_BYTES: usize = 8;
-
-const BITS: usize = 8;
 
 const ALL_ONES: u16 = 0xFFFF;
 
-const POLYNOMIAL: u16 = 0x8408;
-
-// PKT-CHECK: one bit goes into the register.
-fn bit_in(register: u16, bit: u8) -> u16
-    ensures { λ r. ⌜ r ≡ bitIn register bit ⌝ }
+// A register's worth of what one byte says.
+fn wide(x: u8) -> u16
+    ensures { λ r. ⌜ r ≡ x ⌝ }
 {
-    if register % 2 == (bit % 2) as u16 {
-        register >> 1
-    } else {
-        (register >> 1) ^ POLYNOMIAL
-    }
+    x as u16
 }
 
-// PKT-CHECK: the bits of a byte go in, the lowest first.
+// PKT-CHECK: a byte goes into the register, its eight bits at once. Bit k of `taken` says whether the polynomial is taken away as the byte's bit k goes
+// in; where it is, its term x^12 asks for it once more four bits later. Its terms x^0, x^5 and x^12, at bits 15, 10 and 3, come down by 7 - k.
 fn byte_in(register: u16, byte: u8) -> u16
     ensures { λ r. ⌜ r ≡ byteIn register byte ⌝ }
 {
-    let mut q = register;
-    let mut left = byte;
-    let mut k: usize = 0;
-    while k < BITS {
-        q = bit_in(q, left % 2);
-        left = left / 2;
-        k += 1;
-    }
-    q
+    let asked = (register % 256) as u8 ^ byte;
+    let taken = wide(asked ^ (asked << 4));
+    (register >> 8) ^ (taken << 8) ^ (taken << 3) ^ (taken >> 4)
 }
 
 // PKT-CHECK: the check of the bytes from `at` on that it covers.

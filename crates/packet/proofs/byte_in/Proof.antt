@@ -1,45 +1,24 @@
--- `packet::byte_in` meets its contract: the bits that are left, put into the register as it is, give the answer.
+-- `packet::byte_in` meets its contract: it is the byte step.
 -- Assumes nothing.
-use mathlib.Core.Path.{_≡_, refl, sym, ap, _∙_}
-use Prim.Native.Nat.{ℕ, _≤_, _+_, _-_, _/_}
+use mathlib.Core.Path.{_≡_, ap, _∙_}
+use Prim.Native.Nat.{_/_, _^_}
 use native.Mathlib.Omega.{arith}
 use borrow.Author.Needs.{needs}
-use Rattle.packet.specs.Check.{bitsIn}
-use Rattle.packet.proofs.Register.{bits-more, bits-end}
+use Rattle.packet.proofs.ByteStep.{comeDown, eight-bits-are-one-byte}
 use Rattle.packet.proofs.byte_in.Statement.{statement}
 use Rattle.packet.proofs.byte_in.Tie as tie
 
-abbrev Inv-loop : tie.InvT-loop
-Inv-loop register byte q₀ left₀ k₀ q left k = (k ≤ 8) × (bitsIn (8 - k) q left ≡ bitsIn 8 register byte)
+cast-asked : tie.Need-cast-asked
+cast-asked c = search needs
 
-abbrev μ-loop : tie.MeasureT-loop
-μ-loop register byte q₀ left₀ k₀ q left k = 8 - k
+wide-requires : tie.Need-wide-requires
+wide-requires c κs = search needs
 
-loop-holds : tie.Need-loop-holds Inv-loop μ-loop
-loop-holds c = (omega arith, refl)
-
-bit-in-requires : tie.Need-bit-in-requires Inv-loop μ-loop
-bit-in-requires c κs = search needs
-
-add-k : tie.Need-add-k Inv-loop μ-loop
-add-k c = omega arith
-
-loop-less : tie.Need-loop-less Inv-loop μ-loop
-loop-less c = omega arith
-
-loop-again : tie.Need-loop-again Inv-loop μ-loop
-loop-again c =
-    let l = c .before .before .loop in (
-      omega arith,
-      ap (λ (x : ℕ). bitsIn (8 - (l .k + 1)) x (l .left / 2)) (c .bit-in .ensures)
-          ∙ sym (bits-more 8 (l .k) (l .q) (l .left) (omega arith))
-          ∙ l .inv .1,
-    )
-
-returns : tie.Need-returns Inv-loop μ-loop
-returns c = let l = c .before .loop in sym (bits-end 8 (l .k) (l .q) (l .left) (omega arith)) ∙ l .inv .1
+returns : tie.Need-returns
+returns c =
+    let a = c .before .args in
+    let f = c .before .fits in
+    ap (comeDown (a .register / 2 ^ 8)) (c .wide .ensures) ∙ eight-bits-are-one-byte (a .register) (a .byte) (f .register .fits) (f .byte .fits)
 
 pub byte-in-spec : {M : Type 1} → statement M
-byte-in-spec =
-    tie.close
-    (tie.spec Inv-loop μ-loop loop-holds bit-in-requires add-k loop-less loop-again returns)
+byte-in-spec = tie.close (tie.spec cast-asked wide-requires returns)

@@ -1,13 +1,13 @@
--- `packet::bit_in` meets its contract: where the two bits are the same nothing is taken away, and where they differ the polynomial is.
+-- `bench_loops::bit_in` meets its contract: where the two bits are the same nothing is taken away, and where they differ the polynomial is.
 -- Assumes nothing.
 use mathlib.Core.Path.{_≡_, sym, ap, _∙_}
 use Prim.Native.Nat.{ℕ, _+_, _*_, _/_, _%_}
 use native.Mathlib.Omega.{arith}
 use borrow.Author.Needs.{needs}
 use lib.Bits.{bitXor, xor-zero-r}
 use Rattle.packet.specs.Check.{polynomial, bitIn}
-use Rattle.packet.proofs.bit_in.Statement.{statement}
-use Rattle.packet.proofs.bit_in.Tie as tie
+use Rattle.bench_loops.proofs.bit_in.Statement.{statement}
+use Rattle.bench_loops.proofs.bit_in.Tie as tie
 
 same : (r d : ℕ) → r % 2 ≡ d % 2 → r / 2 ≡ bitIn r d
 unfolding bitIn
