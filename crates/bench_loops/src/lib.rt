@@ -1,4 +1,4 @@
-// The loops that bench/ times, for C to call: the checks of many headers, a byte at a time as `packet` has it, or bit by bit as it had it before.
+// The loops that bench/ times, for C to call: the checks of many headers, a byte at a time as `packet` has it, or bit by bit as it had it.
 ghost use mathlib.Core.Path.{_≡_};
 ghost use Prim.Native.Nat.{_+_, _≤_};
 ghost use lib.ListN.{length};
@@ -66,8 +66,8 @@ fn check_either_way(s: &[u8], at: usize, by_bits: bool) -> u64
     }
 }
 
-// A check is folded into a number: what came before is tripled, so that the order counts and the compiler takes one header after the other, as a link
-// brings them.
+// PKT-CHECK: a check is folded into a number. What came before is tripled, so that the order counts and the compiler takes one header after
+// the other, as a link brings them.
 fn folded(digest: u64, check: u64) -> u64
     ensures { λ r. ⌜ r ≡ foldOf digest check ⌝ }
 {

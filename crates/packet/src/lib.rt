@@ -40,15 +40,16 @@ pub const CHECKED_BYTES: usize = 8;
 
 const ALL_ONES: u16 = 0xFFFF;
 
-// A register's worth of what one byte says.
+// A byte's bits, in a number as wide as the register.
 fn wide(x: u8) -> u16
     ensures { λ r. ⌜ r ≡ x ⌝ }
 {
     x as u16
 }
 
-// PKT-CHECK: a byte goes into the register, its eight bits at once. Bit k of `taken` says whether the polynomial is taken away as the byte's bit k goes
-// in; where it is, its term x^12 asks for it once more four bits later. Its terms x^0, x^5 and x^12, at bits 15, 10 and 3, come down by 7 - k.
+// PKT-CHECK: a byte goes into the register, its eight bits at once. Bit k of `taken` says whether the polynomial is taken away as bit k of
+// the byte goes in; where it is, its term x^12 asks for it once more four bits later. Its terms x^0, x^5 and x^12, at the bits 15, 10 and 3
+// at first, come down by 7 - k: to 8 and 3 above bit k, and to 4 below it.
 fn byte_in(register: u16, byte: u8) -> u16
     ensures { λ r. ⌜ r ≡ byteIn register byte ⌝ }
 {
