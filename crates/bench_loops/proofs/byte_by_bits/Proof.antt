@@ -5,7 +5,7 @@ use Prim.Native.Nat.{ℕ, _≤_, _+_, _-_, _/_}
 use native.Mathlib.Omega.{arith}
 use borrow.Author.Needs.{needs}
 use Rattle.packet.specs.Check.{bitsIn}
-use Rattle.bench_loops.proofs.Bits.{bits-more, bits-end}
+use Rattle.bench_loops.proofs.Bits.{bit-more, bit-end}
 use Rattle.bench_loops.proofs.byte_by_bits.Statement.{statement}
 use Rattle.bench_loops.proofs.byte_by_bits.Tie as tie
 
@@ -32,12 +32,12 @@ loop-again c =
     let l = c .before .before .loop in (
       omega arith,
       ap (λ (x : ℕ). bitsIn (8 - (l .k + 1)) x (l .left / 2)) (c .bit-in .ensures)
-          ∙ sym (bits-more 8 (l .k) (l .q) (l .left) (omega arith))
+          ∙ sym (bit-more 8 (l .k) (l .q) (l .left) (omega arith))
           ∙ l .inv .1,
     )
 
 returns : tie.Need-returns Inv-loop μ-loop
-returns c = let l = c .before .loop in sym (bits-end 8 (l .k) (l .q) (l .left) (omega arith)) ∙ l .inv .1
+returns c = let l = c .before .loop in sym (bit-end 8 (l .k) (l .q) (l .left) (omega arith)) ∙ l .inv .1
 
 pub byte-by-bits-spec : {M : Type 1} → statement M
 byte-by-bits-spec =

@@ -1,26 +1,20 @@
 -- `bench_loops::check_by_bits` meets its contract: the bytes that are left, put into the register as it is, give the answer.
 -- Assumes nothing.
-use mathlib.Core.Path.{_≡_, sym, ap, _∙_}
-use Prim.Native.Nat.{ℕ, _≤_, _-_, _+_}
-use native.Mathlib.Nat.{add-zero}
+use Prim.Native.Nat.{_-_}
 use native.Mathlib.Omega.{arith}
-use lib.ListN.{take, drop}
 use borrow.Author.Needs.{needs}
-use Rattle.packet.specs.Check.{bytesIn, checkOf}
-use Rattle.packet.proofs.Register.{bytes-more, bytes-end}
+use Rattle.packet.proofs.Register.{ChecksOn, checks-first, checks-next, checks-last}
 use Rattle.bench_loops.proofs.check_by_bits.Statement.{statement}
 use Rattle.bench_loops.proofs.check_by_bits.Tie as tie
 
 abbrev Inv-loop : tie.InvT-loop
-Inv-loop s at q₀ k₀ q k = (k ≤ 8) × (bytesIn q (take (8 - k) (drop (at + k) s)) ≡ checkOf (take 8 (drop at s)))
+Inv-loop s at q₀ k₀ q k = ChecksOn s at 8 q k
 
 abbrev μ-loop : tie.MeasureT-loop
 μ-loop s at q₀ k₀ q k = 8 - k
 
 loop-holds : tie.Need-loop-holds Inv-loop μ-loop
-loop-holds c =
-    let a = c .before .args in
-    (omega arith, ap (λ (i : ℕ). checkOf (take 8 (drop i (a .s .now)))) (add-zero (a .at)))
+loop-holds c = let a = c .before .args in checks-first (a .s .now) (a .at) 8
 
 add-byte-by-bits : tie.Need-add-byte-by-bits Inv-loop μ-loop
 add-byte-by-bits c = omega arith
@@ -40,18 +34,14 @@ loop-less c = omega arith
 loop-again : tie.Need-loop-again Inv-loop μ-loop
 loop-again c =
     let l = c .before .before .before .loop in
-    let a = c .before .before .before .before .before .args in (
-      omega arith,
-      ap (λ (x : ℕ). bytesIn x (take (8 - (l .k + 1)) (drop (a .at + (l .k + 1)) (a .s .now)))) (c .byte-by-bits .ensures)
-          ∙ sym (bytes-more (a .s .now) (a .at) 8 (l .k) (l .q) (omega arith) (omega arith))
-          ∙ l .inv .1,
-    )
+    let a = c .before .before .before .before .before .args in
+    checks-next (a .s .now) (a .at) 8 (l .q) (l .k) (c .byte-by-bits .result) (omega arith) (omega arith) (c .byte-by-bits .ensures) (l .inv)
 
 returns : tie.Need-returns Inv-loop μ-loop
 returns c =
     let l = c .before .loop in
     let a = c .before .before .before .args in
-    sym (bytes-end (a .s .now) (a .at) 8 (l .k) (l .q) (omega arith)) ∙ l .inv .1
+    checks-last (a .s .now) (a .at) 8 (l .q) (l .k) (omega arith) (l .inv)
 
 pub check-by-bits-spec : {M : Type 1} → statement M
 check-by-bits-spec =

@@ -6,13 +6,13 @@ use native.Mathlib.Nat.{sub-zero}
 use native.Mathlib.Omega.{arith}
 use lib.ListN.{length}
 use borrow.Author.Needs.{needs}
-use Rattle.bench_loops.specs.Digest.{foldOf, foldChecks, digestOfChecks}
-use Rattle.bench_loops.proofs.Digest.{checks-more, checks-end}
+use Rattle.bench_loops.specs.Digest.{checksFrom, foldOf, digestFrom, digestOfChecks}
+use Rattle.bench_loops.proofs.Digest.{header-more, header-end}
 use Rattle.bench_loops.proofs.digest_of_checks.Statement.{statement}
 use Rattle.bench_loops.proofs.digest_of_checks.Tie as tie
 
 abbrev Inv-loop : tie.InvT-loop
-Inv-loop s by-bits headers digest₀ at₀ k₀ digest at k = (k ≤ headers) × ((at ≡ k * 10) × (foldChecks (headers - k) s at digest ≡ digestOfChecks s))
+Inv-loop s by-bits headers digest₀ at₀ k₀ digest at k = (k ≤ headers) × ((at ≡ k * 10) × (digestFrom digest (checksFrom (headers - k) s at) ≡ digestOfChecks s))
 
 abbrev μ-loop : tie.MeasureT-loop
 μ-loop s by-bits headers digest₀ at₀ k₀ digest at k = headers - k
@@ -20,7 +20,7 @@ abbrev μ-loop : tie.MeasureT-loop
 loop-holds : tie.Need-loop-holds Inv-loop μ-loop
 loop-holds c =
     let s = c .before .args .s .now in
-    (omega arith, (refl, ap (λ (n : ℕ). foldChecks n s 0 0) (sub-zero (length s / 10))))
+    (omega arith, (refl, ap (λ (n : ℕ). digestFrom 0 (checksFrom n s 0)) (sub-zero (length s / 10))))
 
 check-either-way-requires : tie.Need-check-either-way-requires Inv-loop μ-loop
 check-either-way-requires c κs = search needs
@@ -45,9 +45,9 @@ loop-again c =
       omega arith,
       (
         omega arith,
-        ap (foldChecks (m - (l .k + 1)) s (l .at + 10))
+        ap (λ (d : ℕ). digestFrom d (checksFrom (m - (l .k + 1)) s (l .at + 10)))
             (c .folded .ensures ∙ ap (foldOf (l .digest)) (c .before .check-either-way .ensures))
-            ∙ sym (checks-more m (l .k) s (l .at) (l .digest) (omega arith))
+            ∙ sym (header-more m (l .k) s (l .at) (l .digest) (omega arith))
             ∙ l .inv .1 .1,
       ),
     )
@@ -56,7 +56,7 @@ returns : tie.Need-returns Inv-loop μ-loop
 returns c =
     let l = c .before .loop in
     let s = c .before .before .before .args .s .now in
-    sym (checks-end (length s / 10) (l .k) s (l .at) (l .digest) (omega arith)) ∙ l .inv .1 .1
+    sym (header-end (length s / 10) (l .k) s (l .at) (l .digest) (omega arith)) ∙ l .inv .1 .1
 
 pub digest-of-checks-spec : {M : Type 1} → statement M
 digest-of-checks-spec =
