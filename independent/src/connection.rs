@@ -312,13 +312,14 @@ fn when_open(record: Record, now: u32, message: &Message) -> (Record, Answer) {
         Some(number) => return counted(record, answer(number, 0)),
         None => {}
     }
+    // 02, No. 4: from here on d is 1 to N, so number and stamps move whatever the age.
+    let heard = Record { last_number: message.number, peer_stamp: message.stamp, arrival: now, ..record };
     if age < 0 {
-        return counted(record, answer(206, 0));
+        return counted(heard, answer(206, 0));
     }
     if age as u32 > record.settings.t_max {
-        return counted(record, answer(205, 0));
+        return counted(heard, answer(205, 0));
     }
-    let heard = Record { last_number: message.number, peer_stamp: message.stamp, arrival: now, ..record };
     if gap(&record, message.number) {
         return counted(heard, Answer { delivered, ..answer(204, 0) });
     }

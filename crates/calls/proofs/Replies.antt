@@ -114,8 +114,9 @@ module _ (room n : ℕ) (enough : estSize ≤ room) where
   open-whole : (c : Connection) (now : Count) (h : Header) (t : Tail) (k : ℕ) → Whole room n (openFollowsOf c now h t k)
   unfolding openFollowsOf
   open-whole c now h t k =
+      both (Whole room n) (eqb k 202) _ _ (λ _. raised-whole _ 202 0) (λ _.
       both (Whole room n) (eqb k 203) _ _ (λ _. refl) (λ _.
-      both (Whole room n) (eqb k 204) _ _ (λ _. raised-whole _ 204 _) (λ _. raised-whole _ k 0))
+      both (Whole room n) (eqb k 204) _ _ (λ _. raised-whole _ 204 _) (λ _. raised-whole _ k 0)))
 
   follows-whole : (c : Connection) (now : Count) (h : Header) (t : Tail) (k : ℕ) → Whole room n (followsOf c now h t k)
   unfolding followsOf

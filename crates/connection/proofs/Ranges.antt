@@ -18,6 +18,7 @@ within x least most e = let a = or-off (ltb x least) (ltb most x) e in (ltb-fals
 
 pub record InRange (s : Settings) : Type 0 where
   pub n : 1 ≤ s .n
+  pub most-n : s .n ≤ 1000
   pub «t_start» : s .«t_start» ≤ 60000
   pub limit : 1 ≤ s .limit
 
@@ -29,4 +30,4 @@ in-range s e =
     let t = or-off ((s .n) outside 1 to mostN || (s .«t_max») outside 1 to mostTime || (s .e) outside 0 to (s .«t_max»)) ((s .«t_start») outside 1 to mostTime) (o .0) in
     let x = or-off ((s .n) outside 1 to mostN || (s .«t_max») outside 1 to mostTime) ((s .e) outside 0 to (s .«t_max»)) (t .0) in
     let m = or-off ((s .n) outside 1 to mostN) ((s .«t_max») outside 1 to mostTime) (x .0) in
-    record { n = within (s .n) 1 mostN (m .0) .0; «t_start» = within (s .«t_start») 1 mostTime (t .1) .1; limit = within (s .limit) 1 mostLimit (l .1) .0 }
+    record { n = within (s .n) 1 mostN (m .0) .0; most-n = within (s .n) 1 mostN (m .0) .1; «t_start» = within (s .«t_start») 1 mostTime (t .1) .1; limit = within (s .limit) 1 mostLimit (l .1) .0 }

@@ -205,7 +205,7 @@ impl Connection {
         self
     }
 
-    // ERR-6: what is remembered of a message that was taken.
+    // ERR-6: what is remembered of a message.
     pub fn heard(mut self, h: Header, now: Count) -> Connection
         ensures { λ r. ⌜ r ≡ heard self h now ⌝ }
     {

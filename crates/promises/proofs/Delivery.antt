@@ -67,7 +67,7 @@ module _ (c : Connection) (now : Count) (message : List ℕ) where
   raised-delivers d k n e = both Delivers (leb (d .settings .limit) (d .errors + 1)) _ _ (λ _. e) (λ _. e)
 
   -- the type that an open connection expects
-  is-data : (h : Header) → Expects (c .phase) (h .kind) → eqb (c .phase) opened ≡ true → h .kind ≡ application
+  pub is-data : (h : Header) → Expects (c .phase) (h .kind) → eqb (c .phase) opened ≡ true → h .kind ≡ application
   is-data h (Expects.x2 p k) o = let z : c .phase ≡ opened = eqb-true (c .phase) opened o in let q : ⊥ = omega arith in absurd q
   is-data h (Expects.x4 p k) o = let z : c .phase ≡ opened = eqb-true (c .phase) opened o in let q : ⊥ = omega arith in absurd q
   is-data h (Expects.x1 p k) o = let z : c .phase ≡ opened = eqb-true (c .phase) opened o in let q : ⊥ = omega arith in absurd q
@@ -110,7 +110,8 @@ module _ (c : Connection) (now : Count) (message : List ℕ) where
         taken = λ h t w x _. taken h t w (expected-is (c .phase) (h .kind) x);
         refusing = λ h _. nothing 209 (none-but 209 refl refl);
         in-set-up = λ k f s. nothing k (in-set-up k s);
+        dropped = λ _. raised-delivers (clocked c now) 202 0 (nothing 202 (none-but 202 refl refl));
         too-far = λ _. nothing 203 (none-but 203 refl refl);
         after-gap = λ h t w x o. raised-delivers (heard (clocked c now) h now) 204 (t .«data») (all h t w (is-data h (expected-is (c .phase) (h .kind) x) o) 204 (open-204 o));
-        raising = λ k f _ n _. raised-delivers (clocked c now) k 0 (nothing k (none-but k (fault-nothing f) n));
+        raising = λ h _ _ k f _ n _. raised-delivers (heard (clocked c now) h now) k 0 (nothing k (none-but k (fault-nothing f) n));
       })

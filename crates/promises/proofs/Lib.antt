@@ -1,4 +1,5 @@
 pub mod Delivery
 pub mod Opening
 pub mod Promises
+pub mod Remembered
 pub mod Valid

@@ -286,9 +286,10 @@ module _ (log : List Header) (c : Connection) (now : Count) (message : List ℕ)
           taken = λ h t w x e. taken-all h t w (right-echo c now h t e) (expected-is (c .phase) (h .kind) x);
           refusing = λ h _. gone _ refl;
           in-set-up = λ k f _. gone _ refl;
+          dropped = λ o. raised-after (clocked c now) 202 0 refl refl o;
           too-far = λ _. gone _ refl;
           after-gap = λ h t _ _ o. raised-after (heard (clocked c now) h now) 204 (t .«data») refl refl o;
-          raising = λ k f _ _ o. raised-after (clocked c now) k 0 refl refl o;
+          raising = λ h _ _ k _ _ _ o. raised-after (heard (clocked c now) h now) k 0 refl refl o;
         })
 
 -- ---- the other calls

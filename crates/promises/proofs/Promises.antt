@@ -116,10 +116,12 @@ pub record Ways (P : Outcome → Type 0) (c : Connection) (now : Count) (p : Par
   pub taken : (h : Header) (t : Tail) → p ≡ Parsed.Whole h t → expectationOf (c .phase) (h .kind) ≡ Expected → faultOf c now h t ≡ 0 → P (messageTaken c now h t)
   pub refusing : (h : Header) → eqb (c .phase) opened ≡ false → P (refusing c now h)
   pub in-set-up : (k : ℕ) → Fault k → eqb (c .phase) opened ≡ false → P (released k 0)
+  pub dropped : eqb (c .phase) opened ≡ true → P (raised (clocked c now) 202 0)
   pub too-far : eqb (c .phase) opened ≡ true → P (released 203 0)
   pub after-gap : (h : Header) (t : Tail) → p ≡ Parsed.Whole h t → expectationOf (c .phase) (h .kind) ≡ Expected → eqb (c .phase) opened ≡ true
       → P (raised (heard (clocked c now) h now) 204 (t .«data»))
-  pub raising : (k : ℕ) → Fault k → eqb k 203 ≡ false → eqb k 204 ≡ false → eqb (c .phase) opened ≡ true → P (raised (clocked c now) k 0)
+  pub raising : (h : Header) (t : Tail) → p ≡ Parsed.Whole h t → (k : ℕ) → Fault k → eqb k 203 ≡ false → eqb k 204 ≡ false → eqb (c .phase) opened ≡ true
+      → P (raised (heard (clocked c now) h now) k 0)
 
 -- an unexpected type: open, or in set-up
 unexpected-open : (phase type : ℕ) → expectationOf phase type ≡ Unexpected → eqb phase opened ≡ true
@@ -148,7 +150,10 @@ module _ (P : Outcome → Type 0) (c : Connection) (now : Count) (p : Parsed) (l
   module _ (h : Header) (t : Tail) (w : p ≡ Parsed.Whole h t) (x : expectationOf (c .phase) (h .kind) ≡ Expected) where
     open-leaf : (k : ℕ) → Fault k → eqb (c .phase) opened ≡ true → P (openFollowsOf c now h t k)
     unfolding openFollowsOf
-    open-leaf k f o = both P (eqb k 203) _ _ (λ _. l .too-far o) (λ e. both P (eqb k 204) _ _ (λ _. l .after-gap h t w x o) (λ d. l .raising k f e d o))
+    open-leaf k f o =
+        both P (eqb k 202) _ _ (λ _. l .dropped o) (λ _.
+        both P (eqb k 203) _ _ (λ _. l .too-far o) (λ e.
+        both P (eqb k 204) _ _ (λ _. l .after-gap h t w x o) (λ d. l .raising h t w k f e d o)))
 
     fault-leaf : (k : ℕ) → eqb k 0 ≡ false → Fault k → P (followsOf c now h t k)
     unfolding followsOf
@@ -246,9 +251,10 @@ receive-number c now message room =
       taken = λ h t _ _ _. taken-in c now h t;
       refusing = λ _ _. refl;
       in-set-up = λ k f _. fault-in f;
+      dropped = λ _. raised-in (ruleOf Call.Receive .numbers) (clocked c now) 202 0 refl;
       too-far = λ _. refl;
       after-gap = λ h t _ _ _. raised-in (ruleOf Call.Receive .numbers) (heard (clocked c now) h now) 204 (t .«data») refl;
-      raising = λ k f _ _ _. raised-in (ruleOf Call.Receive .numbers) (clocked c now) k 0 (fault-in f);
+      raising = λ h _ _ k f _ _ _. raised-in (ruleOf Call.Receive .numbers) (heard (clocked c now) h now) k 0 (fault-in f);
     })
 
 pub tick-number : (c : Connection) (now : Count) → tickOutcome c now .number among ruleOf Call.Tick .numbers ≡ true
@@ -323,9 +329,10 @@ receive-refusal-changes-nothing c now message room =
       taken = λ h t _ _ _. taken-fair c now h t;
       refusing = λ _ _. other 209 refl;
       in-set-up = λ k f _. other k (fault-fair f);
+      dropped = λ _. raised-fair c (clocked c now) 202 0 refl;
       too-far = λ _. other 203 refl;
       after-gap = λ h t _ _ _. raised-fair c (heard (clocked c now) h now) 204 (t .«data») refl;
-      raising = λ k f _ _ _. raised-fair c (clocked c now) k 0 (fault-fair f);
+      raising = λ h _ _ k f _ _ _. raised-fair c (heard (clocked c now) h now) k 0 (fault-fair f);
     })
 
 pub tick-refusal-changes-nothing : (c : Connection) (now : Count)
@@ -368,7 +375,7 @@ abbrev Refusal : Connection → ℕ → Type 0
 Refusal c k = false ≡ releasedBy c k
 
 -- an open connection has no wait
-not-open : (c : Connection) (now : Count) → expired c now ≡ true → eqb (c .phase) opened ≡ false
+pub not-open : (c : Connection) (now : Count) → expired c now ≡ true → eqb (c .phase) opened ≡ false
 unfolding expired timed
 not-open c now e = go (eqb (c .phase) responderWaitsFor1) (eqb (c .phase) opened) _ e
   where
@@ -430,9 +437,10 @@ receive-released c now message room =
       taken = λ h t _ _ _. taken-rel c now h t;
       refusing = λ h s. simp s;
       in-set-up = λ k f s. set-up-rel c f s;
+      dropped = λ o. raised-rel c (clocked c now) 202 0 refl refl (open-rel c f202 refl o);
       too-far = λ o. simp o;
       after-gap = λ h t _ _ o. raised-rel c (heard (clocked c now) h now) 204 (t .«data») refl refl (open-rel c f204 refl o);
-      raising = λ k f n _ o. raised-rel c (clocked c now) k 0 refl refl (open-rel c f n o);
+      raising = λ h _ _ k f n _ o. raised-rel c (heard (clocked c now) h now) k 0 refl refl (open-rel c f n o);
     })
 
 pub tick-released : (c : Connection) (now : Count) → tickOutcome c now .released ≡ releasedBy c (tickOutcome c now .number)

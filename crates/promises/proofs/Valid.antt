@@ -57,12 +57,12 @@ use Rattle.promises.specs.Promises.{Valid, Stays}
 use Rattle.calls.proofs.Replies.{both, none-refused, row-off, then-off}
 use Rattle.promises.proofs.Promises.{Ways, receive-by, tick-by}
 
-no-way : {X : Type 0} → true ≡ false → X
+pub no-way : {X : Type 0} → true ≡ false → X
 no-way e = absurd (subst T e tt)
 
 -- what is known of a record that is sound
-record Sound (c : Connection) : Type 0 where
-  settings : outOfRange (c .settings) ≡ false
+pub record Sound (c : Connection) : Type 0 where
+  pub settings : outOfRange (c .settings) ≡ false
   phase : (c .phase) outside initiatorWaitsFor2 to opened ≡ false
   errors : leb (c .settings .limit) (c .errors) ≡ false
   limit : 1 ≤ c .settings .limit
@@ -123,7 +123,7 @@ tick-sound : (c : Connection) (now : Count) → tickRefusal c now ≡ 0 → Soun
 unfolding tickRefusal
 tick-sound c now e = not-bad c (then-off (closeRefusal c) _ e .0)
 
-receive-sound : (c : Connection) (now : Count) (room : ℕ) → receiveRefusal c now room ≡ 0 → Sound c
+pub receive-sound : (c : Connection) (now : Count) (room : ℕ) → receiveRefusal c now room ≡ 0 → Sound c
 unfolding receiveRefusal
 receive-sound c now room e = tick-sound c now (then-off (tickRefusal c now) _ e .0)
 
@@ -155,9 +155,10 @@ receive-stays c now message room v =
           taken = λ h t _ _ _. taken-stays c s now h t;
           refusing = λ _ _. gone refl refl;
           in-set-up = λ _ _ _. gone refl refl;
+          dropped = λ _. raised-stays (clocked c now) 202 0 (clocked-sound c now s);
           too-far = λ _. gone refl refl;
           after-gap = λ h t _ _ _. raised-stays (heard (clocked c now) h now) 204 (t .«data») (heard-sound c now h s);
-          raising = λ k _ _ _ _. raised-stays (clocked c now) k 0 (clocked-sound c now s);
+          raising = λ h _ _ k _ _ _ _. raised-stays (heard (clocked c now) h now) k 0 (heard-sound c now h s);
         }
 
 pub tick-stays : (c : Connection) (now : Count) → Valid c → Stays (tickOutcome c now)

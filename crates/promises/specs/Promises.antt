@@ -6,8 +6,15 @@ use mathlib.Core.List.{List, [], _∷_}
 use mathlib.Core.Logic.{_⊎_}
 use lib.Dec.{ltb, leb, eqb}
 use Rattle.rules.specs.Rows.{when_answer_else_}
+use Rattle.clock.specs.declared.Count.{Count}
+use Rattle.number.specs.Number.{distanceOf}
+use Rattle.message.specs.Read.{parsedOf}
+use Rattle.message.specs.declared.Header.{Header}
+use Rattle.message.specs.declared.Tail.{Tail}
+use Rattle.message.specs.declared.Parsed.{Parsed}
 use Rattle.connection.specs.declared.Connection.{Connection}
-use Rattle.connection.specs.Connection.{closed, opened, unsound, allZero}
+use Rattle.connection.specs.declared.Peer.{Peer}
+use Rattle.connection.specs.Connection.{closed, opened, unsound, allZero, heardOf}
 use Rattle.what_follows.specs.declared.Outcome.{Outcome}
 use Rattle.what_follows.specs.declared.Reply.the-variants.{Nothing}
 
@@ -50,3 +57,26 @@ pub record Stays (o : Outcome) : Type 0 where
 -- AGE-4, PEER-204: delivered with a 0 or a 204 of an open connection
 unfoldable pub deliversTo : Connection → ℕ → Bool
 deliversTo c k = eqb (c .phase) opened && (eqb k 0 || eqb k 204)
+
+-- ERR-6: the answers of an open connection after which, if it is not released, it remembers the message
+abbrev pub rememberedWith : List ℕ
+rememberedWith = 0 ∷ 204 ∷ 205 ∷ 206 ∷ []
+
+-- ERR-6: the last number is the message's, and the remembered stamps are its stamp and our count
+pub record Remembers (message : List ℕ) (now : Count) (c : Connection) : Type 0 where
+  pub header : Header
+  pub tail : Tail
+  pub taken-apart : parsedOf message ≡ Parsed.Whole header tail
+  pub number : c .peer .number ≡ header .number
+  pub stamp : c .peer .stamp ≡ header .stamp
+  pub arrival : c .peer .arrival ≡ now
+
+-- ERR-6: d from 1 to N
+abbrev pub oneToN : Connection → ℕ → Bool
+oneToN c d = leb 1 d && leb d (c .settings .n)
+
+-- ERR-5, ERR-6: what an open connection remembers of the peer after a type 6 that did not release it: by d alone, whatever the age
+unfoldable pub rememberedBy : Connection → Count → Header → Peer
+rememberedBy c now h =
+    when oneToN c (distanceOf (h .number) (c .peer .number)) answer heardOf h now else
+    c .peer

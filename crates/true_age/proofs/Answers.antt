@@ -103,8 +103,9 @@ module _ (c : Connection) (now : Count) (h : Header) (t : Tail) (o : c .phase �
   open-answer : (k : ℕ) → openFollowsOf c now h t k .number ≡ k
   unfolding openFollowsOf
   open-answer k =
+      both (λ (x : Outcome). x .number ≡ k) (eqb k 202) _ _ (λ e. raised-answer _ 202 0 ∙ sym (eqb-true k 202 e)) (λ _.
       both (λ (x : Outcome). x .number ≡ k) (eqb k 203) _ _ (λ e. sym (eqb-true k 203 e)) (λ _.
-      both (λ (x : Outcome). x .number ≡ k) (eqb k 204) _ _ (λ e. raised-answer _ 204 _ ∙ sym (eqb-true k 204 e)) (λ _. raised-answer _ k 0))
+      both (λ (x : Outcome). x .number ≡ k) (eqb k 204) _ _ (λ e. raised-answer _ 204 _ ∙ sym (eqb-true k 204 e)) (λ _. raised-answer _ k 0)))
 
   follows-answer : (k : ℕ) → followsOf c now h t k .number ≡ k
   unfolding followsOf

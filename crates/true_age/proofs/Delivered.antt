@@ -90,10 +90,11 @@ module _ (c : Connection) (now : Count) (message : List ℕ) where
         taken = λ h t w x _. taken h t w (expected-is (c .phase) (h .kind) x);
         refusing = λ h _. none-but 209 refl refl;
         in-set-up = λ k f s. in-set-up k s;
+        dropped = λ _. raised-counted (clocked c now) 202 0 (none-but 202 refl refl);
         too-far = λ _. none-but 203 refl refl;
         after-gap = λ h t w x o. raised-counted (heard (clocked c now) h now) 204 (t .«data») (all-with 204 (open-delivers 204 refl o) h t w
             (is-data c now h t (eqb-true (c .phase) opened o) (expected-is (c .phase) (h .kind) x)));
-        raising = λ k f _ n _. raised-counted (clocked c now) k 0 (none-but k (fault-not-0 f) n);
+        raising = λ h _ _ k f _ n _. raised-counted (heard (clocked c now) h now) k 0 (none-but k (fault-not-0 f) n);
       })
 
   pub hands-up : (room : ℕ) → HandsUp c message (receiveOutcome c now message room .number) (receiveOutcome c now message room .delivered)

@@ -302,9 +302,10 @@ module _ (W : World) (began : W .Moment) (role : ℕ) (settings : Settings) wher
           taken = λ h t w x _. taken-all h t w (expected-is (c .phase) (h .kind) x);
           refusing = λ h _ _. over;
           in-set-up = λ k f _ _. over;
+          dropped = λ _. raised-after (clocked c now) 202 0 refl refl refl refl;
           too-far = λ _ _. over;
           after-gap = λ h t _ _ _. raised-after (heard (clocked c now) h now) 204 (t .«data») refl refl refl refl;
-          raising = λ k f _ _ _. raised-after (clocked c now) k 0 refl refl refl refl;
+          raising = λ h _ _ k _ _ _ _. raised-after (heard (clocked c now) h now) k 0 refl refl refl refl;
         })
 
   -- ---- the other calls

@@ -132,13 +132,14 @@ raised c k delivered =
     when leb (c .settings .limit) (c .errors + 1) answer released k delivered else
     kept k delivered (counted c (c .errors + 1))
 
--- when open: PEER-203; PEER-204, which is delivered (ERR-3) and remembered (ERR-6); 202, 205 and 206, which are not (ERR-5); ERR-1 of all
--- but 203
+-- when open: 202 moves the clock alone (ERR-5), 203 releases (PEER-203). With any other, d is 1 to N, and the message is remembered
+-- whatever its age (ERR-6): a 204, which is delivered (PEER-204, ERR-3), and a 206 or a 205, which is not. ERR-1 of all but 203.
 unfoldable pub openFollowsOf : Connection → Count → Header → Tail → ℕ → Outcome
 openFollowsOf c now h t fault =
+    when eqb fault 202 answer raised (clocked c now) 202 0 else
     when eqb fault 203 answer released 203 0 else
     when eqb fault 204 answer raised (heard (clocked c now) h now) 204 (t .«data») else
-    raised (clocked c now) fault 0
+    raised (heard (clocked c now) h now) fault 0
 
 -- SETUP-ERR: released; SETUP-209: nothing is written but by the initiator's 209
 unfoldable pub followsOf : Connection → Count → Header → Tail → ℕ → Outcome

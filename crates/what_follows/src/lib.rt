@@ -249,13 +249,17 @@ fn raised(c: Connection, number: u16, delivered: usize) -> Outcome
 fn open_follows_of(c: Connection, now: Count, h: Header, t: Tail, fault: u16) -> Outcome
     ensures { λ r. ⌜ r ≡ openFollowsOf c now h t fault ⌝ }
 {
+    if fault == 202 {
+        return raised(c.clocked(now), 202, 0);
+    }
     if fault == 203 {
         return released(203, 0);
     }
+    let moved = c.clocked(now).heard(h, now);
     if fault == 204 {
-        return raised(c.clocked(now).heard(h, now), 204, t.data);
+        return raised(moved, 204, t.data);
     }
-    raised(c.clocked(now), fault, 0)
+    raised(moved, fault, 0)
 }
 
 fn follows_of(c: Connection, now: Count, h: Header, t: Tail, fault: u16) -> Outcome

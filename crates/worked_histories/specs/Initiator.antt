@@ -79,9 +79,9 @@ pub record InitiatorMeets : Type 0 where
   -- true age + E + d is J - 1, and the age is its least
   pub future : Judges (world runs) 1000 1000 initiator settings (afterTick runs) 2100 2139 futureMessage common
       (truly 39 computed negℤ (pos 1) answers 206 between negℤ (pos 1) and pos 119)
-  -- the oldest that can be handed up: T_max - E + J - d
+  -- the oldest that can be handed up: T_max - E + J - d; no gap after those that were late or from the future (ERR-6)
   pub oldest : Judges (world runs) 1000 1000 initiator settings (afterFuture runs) 2200 2280 oldestMessage common
-      (truly 80 computed pos 40 answers 204 between pos 40 and pos 160)
+      (truly 80 computed pos 40 answers 0 between pos 40 and pos 160)
 
 -- ---- the peer's clock stands still from 1120 to 1180: the difference rises from 850 to 910
 

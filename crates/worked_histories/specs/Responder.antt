@@ -79,7 +79,7 @@ pub record ResponderMeets : Type 0 where
       (truly 24 computed negℤ (pos 1) answers 206 between negℤ (pos 1) and pos 119)
   -- the oldest that can be handed up: T_max - E + J - d
   pub oldest : Judges (world ours-runs runs) 1000 1000 responder settings (afterFuture ours-runs runs) 2200 2275 oldestMessage common
-      (truly 75 computed pos 50 answers 204 between pos 50 and pos 170)
+      (truly 75 computed pos 50 answers 0 between pos 50 and pos 170)
 
 -- ---- the peer's clock stands still from 1145 to 1205: the difference rises from -850 to -790
 
