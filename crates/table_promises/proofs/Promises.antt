@@ -12,13 +12,14 @@ use lib.ListN.{length, set, getD, length-set}
 use lib.Seq.{sets, getD-set-same, getD-set-other, set-getD}
 use Rattle.clock.specs.declared.Count.{Count}
 use Rattle.connection.specs.declared.Connection.{Connection}
-use Rattle.connection.specs.Connection.{allZero}
+use Rattle.connection.specs.Connection.{opened, allZero}
 use Rattle.what_follows.specs.declared.Outcome.{Outcome}
 use Rattle.what_follows.specs.declared.Reply.{Reply}
 use Rattle.calls.specs.declared.Call.{Call}
 use Rattle.calls.specs.Calls.{ruleOf, outcomeOf, replyBytes, refusal, made}
-use Rattle.promises.specs.Promises.{_among_, callersFault, Unchanged, Valid, Stays}
+use Rattle.promises.specs.Promises.{_among_, callersFault, Unchanged, Valid, Stays, rememberedWith, Remembers}
 use Rattle.promises.proofs.Promises.{call-number, call-refusal-changes-nothing}
+use Rattle.promises.proofs.Remembered.{receive-remembers}
 use Rattle.promises.proofs.Valid.{call-stays}
 use Rattle.table.specs.Table.{badSlot, recordAt, LeftAt, leavesAt, storedAt, madeAt}
 use Rattle.table.proofs.Slot.{in-range}
@@ -166,3 +167,16 @@ promises table slot call now lent out =
       stays-valid = stays-valid table slot call now lent out;
       released-is-zero = released-is-zero table slot call now lent out;
     }
+
+-- ERR-6: what a receive that answers 0, 204, 205 or 206 leaves in an open slot that it does not release
+pub receive-remembers-at-table : (table : List Connection) (slot : ℕ) (now : Count) (lent out : List ℕ)
+    → recordAt table slot .phase ≡ opened
+    → madeAt table slot Call.Receive now lent out .answer .number among rememberedWith ≡ true
+    → madeAt table slot Call.Receive now lent out .answer .released ≡ false
+    → Remembers lent now (recordAt (madeAt table slot Call.Receive now lent out .table) slot)
+receive-remembers-at-table table slot now lent out o n r = either (badSlot (length table) slot)
+    (λ e. absurd (subst T (sym n ∙ ap (λ (l : LeftAt). l .answer .number among rememberedWith) (refused table slot Call.Receive now lent out e)) tt))
+    (λ e. subst (Remembers lent now) (sym (next-there table slot Call.Receive now lent out ∙ rw e refl))
+    (receive-remembers (recordAt table slot) now lent o (length out)
+    (sym (ap (λ (l : LeftAt). l .answer .number among rememberedWith) (taken table slot Call.Receive now lent out e)) ∙ n)
+    (sym (ap (λ (l : LeftAt). l .answer .released) (taken table slot Call.Receive now lent out e)) ∙ r)))
