@@ -332,7 +332,7 @@ fn worked_ages(tests: &mut Tests) {
         let delivered = if number == 0 { 15..18 } else { 0..0 };
         tests.equal("judged", (answer.number, answer.delivered, answer.released), (number, delivered, false));
         let kept = (after.last_number, after.peer_stamp, after.arrival, after.errors);
-        tests.equal("remembered", kept, if number == 0 { (11, stamp, now, 0) } else { (10, 0, 0, 1) });
+        tests.equal("remembered", kept, (11, stamp, now, u8::from(number != 0)));
     }
     tests.equal("E makes it older", connection::age(1130, 300, 7, 830), 7);
 }
@@ -360,9 +360,17 @@ fn worked_numbers(tests: &mut Tests) {
     tests.equal("after a gap that number is the last", (after_gap.last_number, after_gap.peer_stamp, after_gap.arrival), (13, 499, 500));
     let late = msg(12, 400, 0, 0, After::Application { data: &[9] });
     let (after, answer, _) = received(open(SET, 0, 10, 500), 500, &late);
-    tests.equal("late and after a gap", (answer.number, answer.delivered, after.errors, after.last_number), (205, 0..0, 1, 10));
-    let repeated = msg(10, 400, 0, 0, After::Application { data: &[9] });
-    tests.equal("number before age", received(open(SET, 0, 10, 500), 500, &repeated).1.number, 202);
+    tests.equal("late and after a gap", (answer.number, answer.delivered, after.errors), (205, 0..0, 1));
+    tests.equal("a late one is the last", (after.last_number, after.peer_stamp, after.arrival), (12, 400, 500));
+    tests.equal("good, after a late one", received(after, 501, &msg(13, 501, 0, 0, After::Application { data: &[9] })).1.number, 0);
+    let future = msg(11, 501, 0, 0, After::Application { data: &[9] });
+    let (after, answer, _) = received(open(SET, 0, 10, 500), 500, &future);
+    tests.equal("from the future", (answer.number, answer.delivered, after.errors), (206, 0..0, 1));
+    tests.equal("one from the future is the last", (after.last_number, after.peer_stamp, after.arrival), (11, 501, 500));
+    let (before, repeated) = (open(SET, 0, 10, 500), msg(10, 400, 0, 0, After::Application { data: &[9] }));
+    let (after, answer, _) = received(before, 500, &repeated);
+    tests.equal("number before age", answer.number, 202);
+    tests.equal("what is repeated is not remembered", after, Record { errors: 1, ..before });
     let empty = msg(11, 500, 0, 0, After::Application { data: &[] });
     let (after, answer, _) = received(Record { errors: 2, ..open(SET, 0, 10, 500) }, 500, &empty);
     tests.equal("an empty type 6", (answer.number, answer.delivered.len(), after.last_number, after.errors), (0, 0, 11, 0));
