@@ -89,12 +89,12 @@ module _ (c : Connection) (now : Count) (message : List ℕ) where
 
 -- ---- by the number
 
+abbrev ByNumber : Connection → Count → Header → Outcome → Type 0
+ByNumber c now h x = x .released ≡ false → x .next .peer ≡ rememberedBy c now h
+
 module _ (c : Connection) (now : Count) (h : Header) (t : Tail) (o : c .phase ≡ opened) (type : h .kind ≡ application) (most : c .settings .n ≤ 1000) where
   abbrev d : ℕ
   d = distanceOf (h .number) (c .peer .number)
-
-  abbrev ByNumber : Outcome → Type 0
-  ByNumber x = x .released ≡ false → x .next .peer ≡ rememberedBy c now h
 
   is-open : eqb (c .phase) opened ≡ true
   is-open = eq-eqb (c .phase) opened o
@@ -114,29 +114,33 @@ module _ (c : Connection) (now : Count) (h : Header) (t : Tail) (o : c .phase �
       let some = eqb-false d 0 (ahead .0) in
       rw (le-leb 1 d (omega (arith, some)), le-leb d (c .settings .n) (ltb-false (c .settings .n) d (rw type at b)))
 
-  raised-moves : rememberedBy c now h ≡ heardOf h now → (k delivered : ℕ) → ByNumber (raised (heard (clocked c now) h now) k delivered)
+  raised-moves : rememberedBy c now h ≡ heardOf h now → (k delivered : ℕ) → ByNumber c now h (raised (heard (clocked c now) h now) k delivered)
   unfolding raised
-  raised-moves e k delivered = both ByNumber (leb (c .settings .limit) (c .errors + 1)) _ _ (λ _ r. no-way r) (λ _ _. sym e)
+  raised-moves e k delivered = both (ByNumber c now h) (leb (c .settings .limit) (c .errors + 1)) _ _ (λ _ r. no-way r) (λ _ _. sym e)
 
-  dropped : notAhead (h .kind) d ≡ true → ByNumber (followsOf c now h t 202)
-  unfolding followsOf openFollowsOf raised
-  dropped e = rw is-open (both ByNumber (leb (c .settings .limit) (c .errors + 1)) _ _ (λ _ r. no-way r) (λ _ _. sym (stays e)))
+  raised-stays : rememberedBy c now h ≡ c .peer → ByNumber c now h (raised (clocked c now) 202 0)
+  unfolding raised
+  raised-stays e = both (ByNumber c now h) (leb (c .settings .limit) (c .errors + 1)) _ _ (λ _ r. no-way r) (λ _ _. sym e)
 
-  too-far : ByNumber (followsOf c now h t 203)
+  dropped : notAhead (h .kind) d ≡ true → ByNumber c now h (followsOf c now h t 202)
+  unfolding followsOf openFollowsOf
+  dropped e = rw is-open (raised-stays (stays e))
+
+  too-far : ByNumber c now h (followsOf c now h t 203)
   unfolding followsOf openFollowsOf
   too-far = rw is-open (λ r. no-way r)
 
   -- any other fault
-  fault-moves : rememberedBy c now h ≡ heardOf h now → (k : ℕ) → eqb k 0 ≡ false → eqb k 202 ≡ false → eqb k 203 ≡ false → ByNumber (followsOf c now h t k)
+  fault-moves : rememberedBy c now h ≡ heardOf h now → (k : ℕ) → eqb k 0 ≡ false → eqb k 202 ≡ false → eqb k 203 ≡ false → ByNumber c now h (followsOf c now h t k)
   unfolding followsOf openFollowsOf
   fault-moves e k z a b =
-      rw (z, is-open, a, b) (both ByNumber (eqb k 204) _ _ (λ _. raised-moves e 204 (t .«data»)) (λ _. raised-moves e k 0))
+      rw (z, is-open, a, b) (both (ByNumber c now h) (eqb k 204) _ _ (λ _. raised-moves e 204 (t .«data»)) (λ _. raised-moves e k 0))
 
-  taken-moves : rememberedBy c now h ≡ heardOf h now → ByNumber (followsOf c now h t 0)
+  taken-moves : rememberedBy c now h ≡ heardOf h now → ByNumber c now h (followsOf c now h t 0)
   unfolding followsOf messageTaken dataTaken rememberedBy
   taken-moves e = rw type (λ _. sym e)
 
-  follows : ByNumber (followsOf c now h t (faultOf c now h t))
+  follows : ByNumber c now h (followsOf c now h t (faultOf c now h t))
   unfolding faultOf
   follows =
       both By (notAhead (h .kind) d) _ _ (λ a. dropped a) (λ a.
@@ -148,15 +152,15 @@ module _ (c : Connection) (now : Count) (h : Header) (t : Tail) (o : c .phase �
       both By (gap (h .kind) d) _ _ (λ _. fault-moves (moves a b) 204 refl refl refl) (λ _. taken-moves (moves a b))))))))
     where
       By : ℕ → Type 0
-      By k = ByNumber (followsOf c now h t k)
+      By k = ByNumber c now h (followsOf c now h t k)
 
   expected : expectationOf (c .phase) (h .kind) ≡ Expected
   unfolding expectationOf
   expected = rw (o, type)
 
-  step : ByNumber (stepOf c now (Parsed.Whole h t))
+  step : ByNumber c now h (stepOf c now (Parsed.Whole h t))
   unfolding stepOf
-  step = subst (λ (x : Expectation). ByNumber (metOf c now h t x)) (sym expected) follows
+  step = subst (λ (x : Expectation). ByNumber c now h (metOf c now h t x)) (sym expected) follows
 
 -- ERR-5, ERR-6: what an open connection remembers after a type 6 that is not refused and does not release goes by the message's d alone
 pub remembers-by-number : (c : Connection) (now : Count) (message : List ℕ) (room : ℕ) (h : Header) (t : Tail)
@@ -165,8 +169,5 @@ pub remembers-by-number : (c : Connection) (now : Count) (message : List ℕ) (r
     → receiveOutcome c now message room .next .peer ≡ rememberedBy c now h
 unfolding receiveOutcome
 remembers-by-number c now message room h t o z w type =
-    rw z (both By (expired c now) _ _ (λ e. no-way (sym (eq-eqb (c .phase) opened o) ∙ not-open c now e))
-    (λ _. subst (λ (p : Parsed). By (stepOf c now p)) (sym w) (step c now h t o type (in-range (c .settings) (receive-sound c now room z .settings) .most-n))))
-  where
-    By : Outcome → Type 0
-    By x = x .released ≡ false → x .next .peer ≡ rememberedBy c now h
+    rw z (both (ByNumber c now h) (expired c now) _ _ (λ e. no-way (sym (eq-eqb (c .phase) opened o) ∙ not-open c now e))
+    (λ _. subst (λ (p : Parsed). ByNumber c now h (stepOf c now p)) (sym w) (step c now h t o type (in-range (c .settings) (receive-sound c now room z .settings) .most-n))))
