@@ -46,14 +46,10 @@ module _ (c : Connection) (now : Count) (message : List ℕ) where
   heard-kept : (h : Header) (t : Tail) → parsedOf message ≡ Parsed.Whole h t → (errors : ℕ) → Remembers message now (counted (heard (clocked c now) h now) errors)
   heard-kept h t w errors = record { header = h; tail = t; taken-apart = w; number = refl; stamp = refl; arrival = refl }
 
-  raised-kept : (h : Header) (t : Tail) → parsedOf message ≡ Parsed.Whole h t → (k delivered : ℕ) → Kept (raised (heard (clocked c now) h now) k delivered)
+  raised-kept : (before : Connection) (k delivered : ℕ)
+      → (k among rememberedWith ≡ true → false ≡ false → Remembers message now (counted before (before .errors + 1))) → Kept (raised before k delivered)
   unfolding raised
-  raised-kept h t w k delivered =
-      both Kept (leb (c .settings .limit) (c .errors + 1)) _ _ (λ _. gone k _) (λ _ _ _. heard-kept h t w (c .errors + 1))
-
-  dropped-kept : Kept (raised (clocked c now) 202 0)
-  unfolding raised
-  dropped-kept = both Kept (leb (c .settings .limit) (c .errors + 1)) _ _ (λ _. gone 202 _) (λ _. other 202 refl _)
+  raised-kept before k delivered f = both Kept (leb (before .settings .limit) (before .errors + 1)) _ _ (λ _. gone k _) (λ _. f)
 
   taken-kept : (h : Header) (t : Tail) → parsedOf message ≡ Parsed.Whole h t → h .kind ≡ application → Kept (messageTaken c now h t)
   unfolding messageTaken dataTaken
@@ -78,10 +74,10 @@ module _ (c : Connection) (now : Count) (message : List ℕ) where
         taken = λ h t w x _. taken-kept h t w (is-data c now message h (expected-is (c .phase) (h .kind) x) is-open);
         refusing = λ _ _. gone 209 _;
         in-set-up = λ k _ _. gone k _;
-        dropped = λ _. dropped-kept;
+        dropped = λ _. raised-kept (clocked c now) 202 0 (other 202 refl _);
         too-far = λ _. gone 203 _;
-        after-gap = λ h t w _ _. raised-kept h t w 204 (t .«data»);
-        raising = λ h t w k _ _ _ _. raised-kept h t w k 0;
+        after-gap = λ h t w _ _. raised-kept (heard (clocked c now) h now) 204 (t .«data») (λ _ _. heard-kept h t w (c .errors + 1));
+        raising = λ h t w k _ _ _ _. raised-kept (heard (clocked c now) h now) k 0 (λ _ _. heard-kept h t w (c .errors + 1));
       })
     where
       is-open : eqb (c .phase) opened ≡ true
@@ -114,17 +110,13 @@ module _ (c : Connection) (now : Count) (h : Header) (t : Tail) (o : c .phase �
       let some = eqb-false d 0 (ahead .0) in
       rw (le-leb 1 d (omega (arith, some)), le-leb d (c .settings .n) (ltb-false (c .settings .n) d (rw type at b)))
 
-  raised-moves : rememberedBy c now h ≡ heardOf h now → (k delivered : ℕ) → ByNumber c now h (raised (heard (clocked c now) h now) k delivered)
+  raised-as : (before : Connection) → before .peer ≡ rememberedBy c now h → (k delivered : ℕ) → ByNumber c now h (raised before k delivered)
   unfolding raised
-  raised-moves e k delivered = both (ByNumber c now h) (leb (c .settings .limit) (c .errors + 1)) _ _ (λ _ r. no-way r) (λ _ _. sym e)
-
-  raised-stays : rememberedBy c now h ≡ c .peer → ByNumber c now h (raised (clocked c now) 202 0)
-  unfolding raised
-  raised-stays e = both (ByNumber c now h) (leb (c .settings .limit) (c .errors + 1)) _ _ (λ _ r. no-way r) (λ _ _. sym e)
+  raised-as before e k delivered = both (ByNumber c now h) (leb (before .settings .limit) (before .errors + 1)) _ _ (λ _ r. no-way r) (λ _ _. e)
 
   dropped : notAhead (h .kind) d ≡ true → ByNumber c now h (followsOf c now h t 202)
   unfolding followsOf openFollowsOf
-  dropped e = rw is-open (raised-stays (stays e))
+  dropped e = rw is-open (raised-as (clocked c now) (sym (stays e)) 202 0)
 
   too-far : ByNumber c now h (followsOf c now h t 203)
   unfolding followsOf openFollowsOf
@@ -134,7 +126,7 @@ module _ (c : Connection) (now : Count) (h : Header) (t : Tail) (o : c .phase �
   fault-moves : rememberedBy c now h ≡ heardOf h now → (k : ℕ) → eqb k 0 ≡ false → eqb k 202 ≡ false → eqb k 203 ≡ false → ByNumber c now h (followsOf c now h t k)
   unfolding followsOf openFollowsOf
   fault-moves e k z a b =
-      rw (z, is-open, a, b) (both (ByNumber c now h) (eqb k 204) _ _ (λ _. raised-moves e 204 (t .«data»)) (λ _. raised-moves e k 0))
+      rw (z, is-open, a, b) (both (ByNumber c now h) (eqb k 204) _ _ (λ _. raised-as (heard (clocked c now) h now) (sym e) 204 (t .«data»)) (λ _. raised-as (heard (clocked c now) h now) (sym e) k 0))
 
   taken-moves : rememberedBy c now h ≡ heardOf h now → ByNumber c now h (followsOf c now h t 0)
   unfolding followsOf messageTaken dataTaken rememberedBy
