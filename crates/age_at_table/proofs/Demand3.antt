@@ -8,8 +8,8 @@ use native.Mathlib.Omega.{arith}
 use lib.ListN.{length}
 use Rattle.rules.specs.Rows.{when_answer_else_}
 use Rattle.message.specs.Read.{dataOf}
+use Rattle.clock.specs.declared.Age.{Age}
 use Rattle.connection.specs.declared.Connection.{Connection}
-use Rattle.peer_faults.specs.Faults.{messageAge}
 use Rattle.calls.specs.declared.Answer.{Answer}
 use Rattle.calls.specs.declared.Call.{Call}
 use Rattle.calls.specs.Calls.{receiveOutcome, refusal, made, deliveredOf}
@@ -59,12 +59,13 @@ demand-3-at-the-table W began j slot role settings t table run log last x o u ne
     let a : Answer = madeAt table slot Call.Receive (countOf (W .ours u)) message out .answer in
     let claim : Claim W began j role settings log last c u message (length out) h m =
     demand-3 W began j role settings log last c (y .history) o u (W .early-trans last t u (y .last-before) next) band message (length out) h s w m in
-    let same : receiveOutcome c (countOf (W .ours u)) message (length out) .number ≡ a .number =
-    sym (promises table slot Call.Receive (countOf (W .ours u)) message out .same-number (y .good-slot)) in
+    let there = promises table slot Call.Receive (countOf (W .ours u)) message out in
+    let r = receiveOutcome c (countOf (W .ours u)) message (length out) in
     let up : HandsUp c message (a .number) (a .delivered) = hands-up-at-the-table table slot (countOf (W .ours u)) message out in
     let age : (first : Ours W) → Written W 0 first log → trueAge W (m .sent) u + settings .e + j + transit W first < 2 ^ 31
-    → AgeClaim settings (trueAge W (m .sent) u) j (transit W first) (messageAge c (countOf (W .ours u)) h) c (a .number) =
-    λ first written small. subst (AgeClaim settings (trueAge W (m .sent) u) j (transit W first) (messageAge c (countOf (W .ours u)) h) c) same (claim .age first written small) in
+    → AgeClaim settings (trueAge W (m .sent) u) j (transit W first) (a .age .0) c (a .number) =
+    λ first written small. subst (λ (age : Age). AgeClaim settings (trueAge W (m .sent) u) j (transit W first) (age .0) c (a .number)) (sym (there .same-age (y .good-slot)))
+    (subst (AgeClaim settings (trueAge W (m .sent) u) j (transit W first) (r .age .0) c) (sym (there .same-number (y .good-slot))) (claim .age first written small)) in
     record {
       same-settings = claim .same-settings;
       own = claim .own;

@@ -12,7 +12,6 @@ use Rattle.message.specs.declared.Parsed.{Parsed}
 use Rattle.connection.specs.declared.Settings.{Settings}
 use Rattle.connection.specs.declared.Connection.{Connection}
 use Rattle.connection.specs.Connection.{opened}
-use Rattle.peer_faults.specs.Faults.{messageAge}
 use Rattle.calls.specs.declared.Call.{Call}
 use Rattle.calls.specs.declared.Answer.{Answer}
 use Rattle.table.specs.Table.{recordAt, madeAt}
@@ -35,7 +34,7 @@ pub record ClaimAtTable (W : World) (began : W .Moment) (j role : ℕ) (settings
   pub same-settings : c .settings ≡ settings
   pub own : OwnSetUp W began role log last c
   pub age : (first : Ours W) → Written W 0 first log → trueAge W (m .sent) u + settings .e + j + transit W first < 2 ^ 31
-      → AgeClaim settings (trueAge W (m .sent) u) j (transit W first) (messageAge c (countOf (W .ours u)) h) c (a .number)
+      → AgeClaim settings (trueAge W (m .sent) u) j (transit W first) (a .age .0) c (a .number)
   pub hands-up : HandsUp c message (a .number) (a .delivered)
   -- where a byte goes up, the message is truly no older than T_max - E + J - d
   pub byte-handed-up : (first : Ours W) → Written W 0 first log → trueAge W (m .sent) u + settings .e + j + transit W first < 2 ^ 31

@@ -5,7 +5,7 @@ use mathlib.Core.List.{List, [], _∷_}
 use lib.ListN.{length, getD}
 use Rattle.field.specs.Row.{widthOf}
 use Rattle.text.specs.Text.{mostDigits}
-use Rattle.text.specs.Line.{mostNumber, mostBytesWord, mostWrittenWords}
+use Rattle.text.specs.Line.{mostNumber, mostAge, mostBytesWord, mostWrittenWords}
 use Rattle.call_lines.specs.Record.{recordSize, mostRecordText}
 use Rattle.call_lines.specs.declared.one_call.OneCall.{OneCall}
 
@@ -47,9 +47,9 @@ mostNumberText = mostDigits + 2
 abbrev pub mostDeliveredText : ℕ
 mostDeliveredText = mostNumber + mostBytesWord mostCallBytes
 
--- these, and what was written between them
+-- these, what was written between them, and the age behind them
 abbrev pub mostAnswerText : ℕ
-mostAnswerText = mostNumberText + mostWrittenWords mostCallRoom + mostDeliveredText
+mostAnswerText = mostNumberText + mostWrittenWords mostCallRoom + mostDeliveredText + mostAge
 
 -- the most text of a call: the answer, the record, and the end of the line
 abbrev pub mostCallText : ℕ

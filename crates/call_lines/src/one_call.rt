@@ -102,14 +102,16 @@ fn put_delivered(out: &mut [u8], at: usize, bytes: &[u8], count: usize) -> usize
     text::put_bytes(out, next, delivered_of(bytes, count))
 }
 
-// The words of an answer: its number, whether the slot was released, what was written, what is delivered.
+// The words of an answer: its number, whether the slot was released, what was written, what is delivered, the age.
 pub fn put_answer(out: &mut [u8], answer: Answer, bytes: &[u8], lent: &[u8]) -> usize
     requires { ⌜ CallFits (now bytes) (now lent) × (mostAnswerText ≤ length (now out)) ⌝ }
     ensures { λ r. ⌜ r ≤ mostAnswerText ⌝ }
 {
+    let age = answer.age;
     let after_number = put_number(out, 0, answer.number, answer.released);
     let after_written = text::put_written(out, after_number, lent, answer.written);
-    put_delivered(out, after_written, bytes, answer.delivered)
+    let after_delivered = put_delivered(out, after_written, bytes, answer.delivered);
+    text::put_age(out, after_delivered, age)
 }
 
 // The line of a call.

@@ -39,7 +39,7 @@ use Rattle.peer_faults.specs.declared.Expectation.the-variants.{Expected, Unexp
 use Rattle.what_follows.specs.declared.Reply.{Reply}
 use Rattle.what_follows.specs.declared.Reply.the-variants.{Nothing, Send}
 use Rattle.what_follows.specs.declared.Outcome.{Outcome}
-use Rattle.peer_faults.specs.Faults.{expectationOf, faultOf}
+use Rattle.peer_faults.specs.Faults.{expectationOf, faultNumber}
 use Rattle.what_follows.specs.Follows.{malformedOf, startTaken, answ1Taken, answ2Taken, estTaken, endTaken, dataTaken, messageTaken, refusing, raised, openFollowsOf, followsOf, metOf, stepOf}
 use Rattle.calls.specs.declared.Given.{Given}
 use Rattle.calls.specs.declared.Call.{Call}
@@ -126,7 +126,7 @@ module _ (room n : ℕ) (enough : estSize ≤ room) where
       both (Whole room n) (eqb (c .phase) initiatorWaitsFor4 && eqb k 209) _ _ (λ _. refusing-whole c now h) (λ _. refl)))
 
   met-whole : (c : Connection) (now : Count) (h : Header) (t : Tail) (x : Expectation) → Whole room n (metOf c now h t x)
-  met-whole c now h t Expected = follows-whole c now h t (faultOf c now h t)
+  met-whole c now h t Expected = follows-whole c now h t (faultNumber c now h t)
   met-whole c now h t Unexpected = refl
   met-whole c now h t Released = refl
 

@@ -6,7 +6,8 @@ use lib.Dec.{ltb, leb, eqb}
 use lib.ListN.{length, take}
 use lib.Seq.{sets}
 use Rattle.rules.specs.Rows.{when_answer_else_}
-use Rattle.clock.specs.Clock.{goesBack, waitOf}
+use Rattle.clock.specs.Clock.{goesBack, waitOf, noAge}
+use Rattle.clock.specs.declared.Age.{Age}
 use Rattle.clock.specs.declared.Count.{Count}
 use Rattle.message.specs.Table.{offsetStart, application, headerSize, startSize, estSize, mostData}
 use Rattle.message.specs.Layout.{periodTail, dataTail}
@@ -250,16 +251,16 @@ replyBytes Nothing lent = []
 replyBytes (Send h t) lent = messageBytes h t lent
 
 -- every answer is made here, of its parts in their order
-abbrev pub says : ℕ → Bool → ℕ → ℕ → Answer
-says k released written delivered = record { number = k; released = released; written = written; delivered = delivered }
+abbrev pub says : ℕ → Bool → ℕ → ℕ → Age → Answer
+says k released written delivered age = record { number = k; released = released; written = written; delivered = delivered; age = age }
 
--- CALL-KEPT: what a caller's fault says
+-- CALL-KEPT: what a caller's fault says; AGE-8: it reports no age
 abbrev pub refusal : ℕ → Answer
-refusal k = says k false 0 0
+refusal k = says k false 0 0 noAge
 
--- what a call says that wrote so many bytes, and the record that it leaves
+-- what a call says that wrote so many bytes, and the record that it leaves; AGE-7: the age that it comes to is passed on
 abbrev pub calledWith : Outcome → ℕ → Called
-calledWith o written = record { answer = says (o .number) (o .released) written (o .delivered); next = o .next }
+calledWith o written = record { answer = says (o .number) (o .released) written (o .delivered) (o .age); next = o .next }
 
 -- What a call leaves: what it says, its record, and its out buffer.
 pub record Leaves : Type 0 where

@@ -35,6 +35,7 @@ ghost use Rattle.calls.specs.Calls.{
   writable,
   deliveredOf,
 };
+use clock::Age;
 use clock::Count;
 use connection::CLOSED;
 use connection::Connection;
@@ -84,6 +85,8 @@ pub struct Answer {
     pub written: usize,
     // How many bytes of the message, from its application data on, are delivered.
     pub delivered: usize,
+    // AGE-7, AGE-8: the age by which the message was judged, with a 0, 204, 205 or 206 of a connection that was open; 0 with any other.
+    pub age: Age,
 }
 
 // A call's answer, and the record that it leaves.
@@ -346,14 +349,15 @@ fn put(reply: Reply, lent: &[u8], out: &mut [u8]) -> usize
 }
 
 // Every answer is made here, of its parts in their order.
-fn says(number: u16, released: bool, written: usize, delivered: usize) -> Answer
-    ensures { λ r. ⌜ r ≡ says number released written delivered ⌝ }
+fn says(number: u16, released: bool, written: usize, delivered: usize, age: Age) -> Answer
+    ensures { λ r. ⌜ r ≡ says number released written delivered age ⌝ }
 {
     Answer {
         number,
         released,
         written,
         delivered,
+        age,
     }
 }
 
@@ -361,16 +365,17 @@ fn says(number: u16, released: bool, written: usize, delivered: usize) -> Answer
 pub fn refusal(number: u16) -> Answer
     ensures { λ r. ⌜ r ≡ refusal number ⌝ }
 {
-    says(number, false, 0, 0)
+    says(number, false, 0, 0, Age::none())
 }
 
 // What a call that wrote so many bytes comes to.
 fn called_with(o: Outcome, written: usize) -> Called
     ensures { λ r. ⌜ r ≡ calledWith o written ⌝ }
 {
+    let age = o.age;
     let next = o.next;
     Called {
-        answer: says(o.number, o.released, written, o.delivered),
+        answer: says(o.number, o.released, written, o.delivered, age),
         next,
     }
 }

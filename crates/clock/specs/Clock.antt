@@ -6,6 +6,7 @@ use lib.IntN.{ℤ, pos, negsuc, negℤ, _+ℤ_, _-ℤ_}
 use lib.Signed.{ltZ}
 use Rattle.rules.specs.Modulo.{modulo}
 use Rattle.rules.specs.Rows.{when_answer_else_}
+use Rattle.clock.specs.declared.Age.{Age}
 use Rattle.clock.specs.declared.Verdict.{Verdict}
 use Rattle.clock.specs.declared.Verdict.the-variants.{Future, Late, Fresh}
 use Rattle.clock.specs.declared.SignMagnitude.{SignMagnitude}
@@ -33,6 +34,10 @@ waitOf now since = wrapped (pos now -ℤ pos since)
 -- AGE-1; AGE-6: from 2^31 on it comes out negative
 unfoldable pub ageOf : ℕ → ℕ → ℕ → ℤ → ℤ
 ageOf now stamp e min = centred (pos now -ℤ pos stamp +ℤ pos e -ℤ min)
+
+-- AGE-8: where no age is reported, 0 stands for it
+abbrev pub noAge : Age
+noAge = record { 0 = pos 0 }
 
 -- AGE-2 is Future, AGE-3 Late, AGE-4 and AGE-5 Fresh
 unfoldable pub verdictOf : ℤ → ℕ → Verdict

@@ -3,7 +3,7 @@ ghost use mathlib.Core.Path.{_≡_};
 ghost use Prim.Native.Nat.{_≤_, _^_};
 ghost use lib.Signed.{ltZ};
 ghost use lib.IntN.{pos, negℤ, natAbs, _+ℤ_, _-ℤ_};
-ghost use Rattle.clock.specs.Clock.{wrapped, centred, goesBack, waitOf, ageOf, verdictOf, signMagnitudeOf, offsetRead};
+ghost use Rattle.clock.specs.Clock.{wrapped, centred, goesBack, waitOf, ageOf, noAge, verdictOf, signMagnitudeOf, offsetRead};
 
 // A clock's count of 10 ms ticks, mod 2^32.
 pub struct Count(pub u32);
@@ -55,6 +55,24 @@ impl Centred {
             Centred::minus(0xffff_ffff - x + 1)
         }
     }
+
+    // Its size, up to 2^31, which is no i32.
+    fn size(self) -> u32
+        ensures { λ r. ⌜ r ≡ natAbs (self .0) ⌝ }
+    {
+        let z = self.0;
+        if z < 0 {
+            (-(z as i64)) as u32
+        } else {
+            z as u32
+        }
+    }
+
+    fn negative(self) -> bool
+        ensures { λ r. ⌜ r ≡ ltZ (self .0) (pos 0) ⌝ }
+    {
+        self.0 < 0
+    }
 }
 
 impl Count {
@@ -102,22 +120,16 @@ impl Offset {
         Offset::of_bits(std::num::wrapping_sub_u32(own.0, peer.0))
     }
 
-    // Its size, up to 2^31, which is no i32.
     pub fn size(self) -> u32
         ensures { λ r. ⌜ r ≡ natAbs (self .0) ⌝ }
     {
-        let z = self.0;
-        if z < 0 {
-            (-(z as i64)) as u32
-        } else {
-            z as u32
-        }
+        Centred(self.0).size()
     }
 
     pub fn negative(self) -> bool
         ensures { λ r. ⌜ r ≡ ltZ (self .0) (pos 0) ⌝ }
     {
-        self.0 < 0
+        Centred(self.0).negative()
     }
 
     // KIND-6: of -2^31 it is -2^31 again.
@@ -177,6 +189,13 @@ impl Offset {
 }
 
 impl Age {
+    // AGE-8: where none is reported.
+    pub fn none() -> Age
+        ensures { λ r. ⌜ r ≡ noAge ⌝ }
+    {
+        Age(0)
+    }
+
     // AGE-1.
     pub fn of(now: Count, stamp: Count, e: u32, min: Offset) -> Age
         ensures { λ r. ⌜ r .0 ≡ ageOf (now .0) (stamp .0) e (min .0) ⌝ }
@@ -200,5 +219,17 @@ impl Age {
         } else {
             Verdict::Fresh
         }
+    }
+
+    pub fn size(self) -> u32
+        ensures { λ r. ⌜ r ≡ natAbs (self .0) ⌝ }
+    {
+        Centred(self.0).size()
+    }
+
+    pub fn negative(self) -> bool
+        ensures { λ r. ⌜ r ≡ ltZ (self .0) (pos 0) ⌝ }
+    {
+        Centred(self.0).negative()
     }
 }

@@ -5,7 +5,8 @@ use lib.Dec.{ltb, leb, eqb}
 use lib.IntN.{ℤ, pos, natAbs, _+ℤ_, _-ℤ_}
 use lib.Signed.{ltZ}
 use Rattle.rules.specs.Rows.{when_answer_else_}
-use Rattle.clock.specs.Clock.{centred, ageOf, verdictOf, verdictNumber}
+use Rattle.clock.specs.Clock.{centred, ageOf, noAge, verdictOf, verdictNumber}
+use Rattle.clock.specs.declared.Age.{Age}
 use Rattle.clock.specs.declared.Count.{Count}
 use Rattle.number.specs.Number.{distanceOf, behindFrom}
 use Rattle.message.specs.Table.{offsetStart, offsetAnsw1, offsetAnsw2, offsetEst, offsetEnd, application}
@@ -22,6 +23,8 @@ use Rattle.connection.specs.Connection.{
 }
 use Rattle.peer_faults.specs.declared.Expectation.{Expectation}
 use Rattle.peer_faults.specs.declared.Expectation.the-variants.{Expected, Unexpected, Released}
+use Rattle.peer_faults.specs.declared.TimeCheck.{TimeCheck}
+use Rattle.peer_faults.specs.declared.Fault.{Fault}
 
 -- PEER-211: each phase from PHASE-1 to PHASE-6 expects one type
 unfoldable pub expectationOf : ℕ → ℕ → Expectation
@@ -74,21 +77,47 @@ checkFailed c type t =
 abbrev pub messageAge : Connection → Count → Header → ℤ
 messageAge c now h = ageOf (now .0) (h .stamp .0) (c .settings .e) (c .offsets .min .0)
 
--- PEER-206, PEER-205: the verdict on the age (AGE-2, AGE-3), of a type 6 alone (AGE-1)
-unfoldable pub ageNumber : Connection → Count → Header → ℕ
-ageNumber c now h =
-    when eqb (h .kind) application answer verdictNumber (verdictOf (messageAge c now h) (c .settings .«t_max»)) else
-    0
+-- AGE-7: an age, and the verdict on it
+abbrev pub checkedBy : ℕ → ℤ → TimeCheck
+checkedBy t-max age = record { age = record { 0 = age }; verdict = verdictOf age t-max }
+
+-- AGE-7: the time check of a message
+abbrev pub timeCheckOf : Connection → Count → Header → TimeCheck
+timeCheckOf c now h = checkedBy (c .settings .«t_max») (messageAge c now h)
+
+-- a fault's number, with an age
+abbrev pub faultWith : ℕ → Age → Fault
+faultWith k age = record { number = k; age = age }
+
+-- PEER-206, PEER-205: the number of the verdict on the age (AGE-2, AGE-3), with the age; of a type 6 alone (AGE-1)
+unfoldable pub ageFault : Connection → Count → Header → Fault
+ageFault c now h =
+    when eqb (h .kind) application answer faultWith (verdictNumber (timeCheckOf c now h .verdict)) (timeCheckOf c now h .age) else
+    faultWith 0 noAge
 
 -- PEER-ORDER from 202 on, of a message that is expected; 0 where there is no fault. In set-up the same rows judge (PEER-SETUP). The number
 -- comes before the age (SLIP-3), and d is taken mod 65536 (SLIP-2).
-unfoldable pub faultOf : Connection → Count → Header → Tail → ℕ
-faultOf c now h t =
+unfoldable pub faultNumber : Connection → Count → Header → Tail → ℕ
+faultNumber c now h t =
     when notAhead (h .kind) (distanceOf (h .number) (c .peer .number)) answer 202 else
     when beyondN (h .kind) (distanceOf (h .number) (c .peer .number)) (c .settings .n) answer 203 else
     when wrongEcho (h .kind) (h .«last_peer_stamp» .0) (c .«wait_start» .0) answer 208 else
     when checkFailed c (h .kind) t answer 209 else
-    when eqb (ageNumber c now h) 206 answer 206 else
-    when eqb (ageNumber c now h) 205 answer 205 else
+    when eqb (ageFault c now h .number) 206 answer 206 else
+    when eqb (ageFault c now h .number) 205 answer 205 else
     when gap (h .kind) (distanceOf (h .number) (c .peer .number)) answer 204 else
     0
+
+-- AGE-7: the numbers with which an age is reported
+unfoldable pub reportsAge : ℕ → Bool
+reportsAge k = eqb k 0 || eqb k 204 || eqb k 205 || eqb k 206
+
+-- AGE-7, AGE-8: the age that is reported with the number k
+unfoldable pub ageWith : Connection → Count → Header → ℕ → Age
+ageWith c now h k =
+    when reportsAge k answer ageFault c now h .age else
+    noAge
+
+-- PEER-ORDER, AGE-7: the first fault, with the age that is reported with it
+abbrev pub faultOf : Connection → Count → Header → Tail → Fault
+faultOf c now h t = faultWith (faultNumber c now h t) (ageWith c now h (faultNumber c now h t))

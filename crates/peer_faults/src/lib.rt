@@ -1,6 +1,6 @@
 // The peer's faults of one message, in PEER-ORDER's order: whether its type is expected, and the first fault of one that is.
 ghost use mathlib.Core.Path.{_≡_};
-ghost use Rattle.clock.specs.Clock.{verdictNumber};
+ghost use Rattle.clock.specs.Clock.{noAge, verdictNumber};
 ghost use Rattle.peer_faults.specs.Faults.{
   expectationOf,
   notAhead,
@@ -9,7 +9,9 @@ ghost use Rattle.peer_faults.specs.Faults.{
   wrongEcho,
   accepts,
   checkFailed,
-  ageNumber,
+  timeCheckOf,
+  faultWith,
+  ageFault,
   faultOf,
 };
 use clock::Age;
@@ -38,6 +40,20 @@ pub enum Expectation {
     Expected,
     Unexpected,
     Released,
+}
+
+// AGE-7: what the time check finds of a message: its age, and the verdict on it.
+pub struct TimeCheck {
+    pub age: Age,
+    pub verdict: Verdict,
+}
+
+// The first fault of a message.
+pub struct Fault {
+    // 0 where there is none.
+    pub number: u16,
+    // AGE-7, AGE-8: the age that is reported with it.
+    pub age: Age,
 }
 
 pub fn expectation_of(phase: u8, kind: u8) -> Expectation
@@ -165,49 +181,72 @@ fn verdict_number(v: Verdict) -> u16
     }
 }
 
-// PEER-206, PEER-205.
-fn age_number(c: Connection, now: Count, h: Header) -> u16
-    ensures { λ r. ⌜ r ≡ ageNumber c now h ⌝ }
+// AGE-7: the age is computed here, once, and the verdict is on it.
+fn time_check(c: Connection, now: Count, h: Header) -> TimeCheck
+    ensures { λ r. ⌜ r ≡ timeCheckOf c now h ⌝ }
 {
-    if h.kind != APPLICATION {
-        return 0;
-    }
     let settings = c.settings;
     let min = c.offsets.min;
     let stamp = h.stamp;
     let age = Age::of(now, stamp, settings.e, min);
-    verdict_number(age.verdict_of(settings.t_max))
+    let verdict = age.verdict_of(settings.t_max);
+    TimeCheck { age, verdict }
+}
+
+// AGE-8: a fault with which no age is reported.
+fn without_age(number: u16) -> Fault
+    ensures { λ r. ⌜ r ≡ faultWith number noAge ⌝ }
+{
+    Fault {
+        number,
+        age: Age::none(),
+    }
+}
+
+// PEER-206, PEER-205.
+fn age_fault(c: Connection, now: Count, h: Header) -> Fault
+    ensures { λ r. ⌜ r ≡ ageFault c now h ⌝ }
+{
+    if h.kind != APPLICATION {
+        return without_age(0);
+    }
+    let found = time_check(c, now, h);
+    let age = found.age;
+    let verdict = found.verdict;
+    let number = verdict_number(verdict);
+    Fault { number, age }
 }
 
 // PEER-ORDER from 202 on, of a message that is expected.
-pub fn fault_of(c: Connection, now: Count, h: Header, t: Tail) -> u16
+pub fn fault_of(c: Connection, now: Count, h: Header, t: Tail) -> Fault
     ensures { λ r. ⌜ r ≡ faultOf c now h t ⌝ }
 {
     let settings = c.settings;
     let d = number::distance_of(h.number, c.peer.number);
     if not_ahead(h.kind, d) {
-        return 202;
+        return without_age(202);
     }
     if beyond_n(h.kind, d, settings.n) {
-        return 203;
+        return without_age(203);
     }
     let echo = h.last_peer_stamp;
     let stamp = c.wait_start;
     if wrong_echo(h.kind, echo, stamp) {
-        return 208;
+        return without_age(208);
     }
     if check_failed(c, h.kind, t) {
-        return 209;
+        return without_age(209);
     }
-    let age = age_number(c, now, h);
-    if age == 206 {
-        return 206;
+    let by_age = age_fault(c, now, h);
+    let age = by_age.age;
+    if by_age.number == 206 {
+        return Fault { number: 206, age };
     }
-    if age == 205 {
-        return 205;
+    if by_age.number == 205 {
+        return Fault { number: 205, age };
     }
     if gap(h.kind, d) {
-        return 204;
+        return Fault { number: 204, age };
     }
-    0
+    Fault { number: 0, age }
 }

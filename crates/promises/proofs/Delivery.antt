@@ -98,7 +98,7 @@ module _ (c : Connection) (now : Count) (message : List ℕ) where
       ≡ (when deliversTo c (receiveOutcome c now message room .number) answer dataOf message else [])
   unfolding refusing
   delivers-bytes-from-15 room =
-      receive-by Delivers c now message room
+      receive-by Delivers (λ _ _ x. x) c now message room
       (λ e. nothing (receiveRefusal c now room) (none-but (receiveRefusal c now room) (not-true (eqb (receiveRefusal c now room) 0) e)
       (receive-refusal-by (λ k. eqb k 204 ≡ false) refl refl c now room refl refl refl)))
       (λ _ _. nothing 207 (none-but 207 refl refl))

@@ -2,4 +2,5 @@ pub mod Delivery
 pub mod Opening
 pub mod Promises
 pub mod Remembered
+pub mod Reported
 pub mod Valid

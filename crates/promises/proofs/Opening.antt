@@ -32,7 +32,7 @@ use Rattle.peer_faults.specs.declared.Expectation.the-variants.{Expected}
 use Rattle.what_follows.specs.declared.Reply.{Reply}
 use Rattle.what_follows.specs.declared.Reply.the-variants.{Nothing, Send}
 use Rattle.what_follows.specs.declared.Outcome.{Outcome}
-use Rattle.peer_faults.specs.Faults.{expectationOf, notAhead, beyondN, wrongEcho, faultOf}
+use Rattle.peer_faults.specs.Faults.{expectationOf, notAhead, beyondN, wrongEcho, faultNumber}
 use Rattle.what_follows.specs.Follows.{startTaken, answ1Taken, answ2Taken, estTaken, endTaken, dataTaken, messageTaken, refusing, raised}
 use Rattle.calls.specs.declared.Given.{Given}
 use Rattle.calls.specs.declared.Call.{Call}
@@ -54,7 +54,7 @@ use Rattle.calls.specs.Calls.{
 }
 use Rattle.promises.specs.Opening.{withSent, withTaken, logAfter, Run, Exchange, FiveMessages}
 use Rattle.calls.proofs.Replies.{both, row-off, then-off, none-refused, tick-silent, close-silent}
-use Rattle.promises.proofs.Promises.{receive-by, tick-by}
+use Rattle.promises.proofs.Promises.{Ageless, receive-by, tick-by}
 
 -- the phases, and the type that each expects
 pub data Expects (phase type : ℕ) : Type 0 where
@@ -65,7 +65,7 @@ pub data Expects (phase type : ℕ) : Type 0 where
   x5 : phase ≡ responderWaitsFor5 → type ≡ offsetEnd → Expects phase type
   x6 : phase ≡ opened → type ≡ application → Expects phase type
 
-and-both : (a b : Bool) → a && b ≡ true → (a ≡ true) × (b ≡ true)
+pub and-both : (a b : Bool) → a && b ≡ true → (a ≡ true) × (b ≡ true)
 and-both true b e = (refl, e)
 and-both false b e = absurd (subst T (sym e) tt)
 
@@ -87,8 +87,8 @@ expected-is phase type =
     (λ _ e. let z : _≡_ {A = ℕ} 0 1 = cc in let q : ⊥ = omega arith in absurd q)))))))
 
 -- of an errorless message of set-up, the echo is right
-right-echo : (c : Connection) (now : Count) (h : Header) (t : Tail) → faultOf c now h t ≡ 0 → wrongEcho (h .kind) (h .«last_peer_stamp» .0) (c .«wait_start» .0) ≡ false
-unfolding faultOf
+right-echo : (c : Connection) (now : Count) (h : Header) (t : Tail) → faultNumber c now h t ≡ 0 → wrongEcho (h .kind) (h .«last_peer_stamp» .0) (c .«wait_start» .0) ≡ false
+unfolding faultNumber
 right-echo c now h t e =
     let a = row-off (notAhead (h .kind) (distanceOf (h .number) (c .peer .number))) 202 _ (lit< tt) e in
     let b = row-off (beyondN (h .kind) (distanceOf (h .number) (c .peer .number)) (c .settings .n)) 203 _ (lit< tt) (a .1) in
@@ -162,6 +162,10 @@ module _ (log : List Header) (c : Connection) (now : Count) (message : List ℕ)
   same d p w (amid h rest l x k o s z i) =
       amid h rest l x (k ∙ ap newestType (sym p)) (λ q. o (sym p ∙ q)) (s ∙ ap (λ (n : Count). n .0) (sym w)) (λ q. z (sym p ∙ q)) (λ q. i (sym p ∙ q))
   same d p w (opens h rest l x k o) = opens h rest l x k (p ∙ o)
+
+  after-ageless : Ageless After
+  unfolding After logAfter
+  after-ageless age o x = x
 
   same-log : (o : Outcome) → logAfter Call.Receive c message o log ≡ log → Holds log (o .next) → After o
   unfolding After
@@ -276,7 +280,7 @@ module _ (log : List Header) (c : Connection) (now : Count) (message : List ℕ)
     receive-holds : (room : ℕ) → After (receiveOutcome c now message room)
     unfolding refusing
     receive-holds room =
-        receive-by After c now message room
+        receive-by After after-ageless c now message room
         (λ e. same-log _ (left _ (not-true (eqb (receiveRefusal c now room) 0) e)) g) (λ _ _. gone _ refl)
         (λ _. record {
           malformed-open = λ _. same-log _ (left _ refl) (same _ refl refl g);

@@ -9,6 +9,7 @@ use native.Mathlib.Omega.{arith}
 use borrow.Author.Tests.{not-true}
 use lib.Dec.{T, ltb, leb, eqb}
 use Rattle.clock.specs.Clock.{goesBack}
+use Rattle.clock.specs.declared.Age.{Age}
 use Rattle.clock.specs.declared.Count.{Count}
 use Rattle.message.specs.Table.{offsetStart, offsetAnsw1, offsetAnsw2, offsetEst, offsetEnd, application, headerSize, startSize, estSize, mostData}
 use Rattle.message.specs.Read.{parsedOf}
@@ -32,8 +33,8 @@ use Rattle.connection.specs.Connection.{
 use Rattle.peer_faults.specs.declared.Expectation.{Expectation}
 use Rattle.peer_faults.specs.declared.Expectation.the-variants.{Expected, Unexpected, Released}
 use Rattle.what_follows.specs.declared.Outcome.{Outcome}
-use Rattle.peer_faults.specs.Faults.{expectationOf, notAhead, beyondN, wrongEcho, checkFailed, ageNumber, gap, faultOf}
-use Rattle.what_follows.specs.Follows.{kept, released, malformedOf, startTaken, answ1Taken, answ2Taken, estTaken, endTaken, dataTaken, messageTaken, refusing, raised, openFollowsOf, followsOf, metOf, stepOf}
+use Rattle.peer_faults.specs.Faults.{expectationOf, notAhead, beyondN, wrongEcho, checkFailed, ageFault, gap, faultNumber, ageWith}
+use Rattle.what_follows.specs.Follows.{reporting, kept, released, malformedOf, startTaken, answ1Taken, answ2Taken, estTaken, endTaken, dataTaken, messageTaken, refusing, raised, openFollowsOf, followsOf, metOf, stepOf}
 use Rattle.calls.specs.declared.Given.{Given}
 use Rattle.calls.specs.declared.Call.{Call}
 use Rattle.calls.specs.Calls.{
@@ -108,12 +109,16 @@ pub data Fault : ℕ → Type 0 where
   f205 : Fault 205
   f204 : Fault 204
 
+-- a promise that does not look at the age that is reported
+abbrev pub Ageless : (Outcome → Type 0) → Type 0
+Ageless P = (age : Age) (o : Outcome) → P o → P (reporting age o)
+
 pub record Ways (P : Outcome → Type 0) (c : Connection) (now : Count) (p : Parsed) : Type 0 where
   pub malformed-open : eqb (c .phase) opened ≡ true → P (kept 201 0 (clocked c now))
   pub malformed-set-up : eqb (c .phase) opened ≡ false → P (released 201 0)
   pub unexpected : eqb (c .phase) opened ≡ true → P (kept 211 0 (clocked c now))
   pub unexpected-set-up : eqb (c .phase) opened ≡ false → P (released 211 0)
-  pub taken : (h : Header) (t : Tail) → p ≡ Parsed.Whole h t → expectationOf (c .phase) (h .kind) ≡ Expected → faultOf c now h t ≡ 0 → P (messageTaken c now h t)
+  pub taken : (h : Header) (t : Tail) → p ≡ Parsed.Whole h t → expectationOf (c .phase) (h .kind) ≡ Expected → faultNumber c now h t ≡ 0 → P (messageTaken c now h t)
   pub refusing : (h : Header) → eqb (c .phase) opened ≡ false → P (refusing c now h)
   pub in-set-up : (k : ℕ) → Fault k → eqb (c .phase) opened ≡ false → P (released k 0)
   pub dropped : eqb (c .phase) opened ≡ true → P (raised (clocked c now) 202 0)
@@ -146,7 +151,7 @@ unexpected-released phase type =
     both (λ x. x ≡ Released → eqb phase opened ≡ false) (eqb phase opened && eqb type application) _ _ (λ _ e. (let z : _≡_ {A = ℕ} 0 1 = cc in let q : ⊥ = omega arith in absurd q)) (λ _.
     both (λ x. x ≡ Released → eqb phase opened ≡ false) (eqb phase opened) _ _ (λ o e. (let z : _≡_ {A = ℕ} 0 1 = cc in let q : ⊥ = omega arith in absurd q)) (λ s e. s)))))))
 
-module _ (P : Outcome → Type 0) (c : Connection) (now : Count) (p : Parsed) (l : Ways P c now p) where
+module _ (P : Outcome → Type 0) (ageless : Ageless P) (c : Connection) (now : Count) (p : Parsed) (l : Ways P c now p) where
   module _ (h : Header) (t : Tail) (w : p ≡ Parsed.Whole h t) (x : expectationOf (c .phase) (h .kind) ≡ Expected) where
     open-leaf : (k : ℕ) → Fault k → eqb (c .phase) opened ≡ true → P (openFollowsOf c now h t k)
     unfolding openFollowsOf
@@ -162,45 +167,45 @@ module _ (P : Outcome → Type 0) (c : Connection) (now : Count) (p : Parsed) (l
         (both P (eqb (c .phase) opened) _ _ (λ o. open-leaf k f o) (λ s.
         both P (eqb (c .phase) initiatorWaitsFor4 && eqb k 209) _ _ (λ _. l .refusing h s) (λ _. l .in-set-up k f s)))
 
-    taken-leaf : faultOf c now h t ≡ 0 → P (followsOf c now h t 0)
+    taken-leaf : faultNumber c now h t ≡ 0 → P (followsOf c now h t 0)
     unfolding followsOf
     taken-leaf e = l .taken h t w x e
 
     Judged : ℕ → Type 0
-    Judged k = faultOf c now h t ≡ k → P (followsOf c now h t k)
+    Judged k = faultNumber c now h t ≡ k → P (followsOf c now h t k)
 
-    follows-leaf : P (followsOf c now h t (faultOf c now h t))
-    unfolding faultOf Judged
+    follows-leaf : P (followsOf c now h t (faultNumber c now h t))
+    unfolding faultNumber Judged
     follows-leaf =
         (both Judged (notAhead (h .kind) (distanceOf (h .number) (c .peer .number))) _ _ (λ _ _. fault-leaf 202 refl f202) (λ _.
         both Judged (beyondN (h .kind) (distanceOf (h .number) (c .peer .number)) (c .settings .n)) _ _ (λ _ _. fault-leaf 203 refl f203) (λ _.
         both Judged (wrongEcho (h .kind) (h .«last_peer_stamp» .0) (c .«wait_start» .0)) _ _ (λ _ _. fault-leaf 208 refl f208) (λ _.
         both Judged (checkFailed c (h .kind) t) _ _ (λ _ _. fault-leaf 209 refl f209) (λ _.
-        both Judged (eqb (ageNumber c now h) 206) _ _ (λ _ _. fault-leaf 206 refl f206) (λ _.
-        both Judged (eqb (ageNumber c now h) 205) _ _ (λ _ _. fault-leaf 205 refl f205) (λ _.
+        both Judged (eqb (ageFault c now h .number) 206) _ _ (λ _ _. fault-leaf 206 refl f206) (λ _.
+        both Judged (eqb (ageFault c now h .number) 205) _ _ (λ _ _. fault-leaf 205 refl f205) (λ _.
         both Judged (gap (h .kind) (distanceOf (h .number) (c .peer .number))) _ _ (λ _ _. fault-leaf 204 refl f204) (λ _.
         λ e. taken-leaf e)))))))) refl
 
   met-leaf : (h : Header) (t : Tail) → p ≡ Parsed.Whole h t → (x : Expectation) → expectationOf (c .phase) (h .kind) ≡ x → P (metOf c now h t x)
-  met-leaf h t w Expected e = follows-leaf h t w e
+  met-leaf h t w Expected e = ageless (ageWith c now h (faultNumber c now h t)) (followsOf c now h t (faultNumber c now h t)) (follows-leaf h t w e)
   met-leaf h t w Unexpected e = l .unexpected (unexpected-open (c .phase) (h .kind) e)
   met-leaf h t w Released e = l .unexpected-set-up (unexpected-released (c .phase) (h .kind) e)
 
-step-leaf : (P : Outcome → Type 0) (c : Connection) (now : Count) (p : Parsed) → Ways P c now p → P (stepOf c now p)
+step-leaf : (P : Outcome → Type 0) → Ageless P → (c : Connection) (now : Count) (p : Parsed) → Ways P c now p → P (stepOf c now p)
 unfolding stepOf malformedOf
-step-leaf P c now Parsed.Malformed l = both P (eqb (c .phase) opened) _ _ (λ o. l .malformed-open o) (λ s. l .malformed-set-up s)
-step-leaf P c now (Parsed.Whole h t) l = met-leaf P c now (Parsed.Whole h t) l h t refl (expectationOf (c .phase) (h .kind)) refl
+step-leaf P ageless c now Parsed.Malformed l = both P (eqb (c .phase) opened) _ _ (λ o. l .malformed-open o) (λ s. l .malformed-set-up s)
+step-leaf P ageless c now (Parsed.Whole h t) l = met-leaf P ageless c now (Parsed.Whole h t) l h t refl (expectationOf (c .phase) (h .kind)) refl
 
 -- receive: refused, or the wait is over, or the message is judged
-pub receive-by : (P : Outcome → Type 0) (c : Connection) (now : Count) (message : List ℕ) (room : ℕ)
+pub receive-by : (P : Outcome → Type 0) → Ageless P → (c : Connection) (now : Count) (message : List ℕ) (room : ℕ)
     → (not (eqb (receiveRefusal c now room) 0) ≡ true → P (refused (receiveRefusal c now room) c))
     → (receiveRefusal c now room ≡ 0 → expired c now ≡ true → P (released 207 0))
     → (receiveRefusal c now room ≡ 0 → Ways P c now (parsedOf message))
     → P (receiveOutcome c now message room)
 unfolding receiveOutcome
-receive-by P c now message room f g l =
+receive-by P ageless c now message room f g l =
     both P (not (eqb (receiveRefusal c now room) 0)) _ _ f (λ e.
-    both P (expired c now) _ _ (g (none-refused (receiveRefusal c now room) e)) (λ _. step-leaf P c now (parsedOf message) (l (none-refused (receiveRefusal c now room) e))))
+    both P (expired c now) _ _ (g (none-refused (receiveRefusal c now room) e)) (λ _. step-leaf P ageless c now (parsedOf message) (l (none-refused (receiveRefusal c now room) e))))
 
 pub tick-by : (P : Outcome → Type 0) (c : Connection) (now : Count)
     → (not (eqb (tickRefusal c now) 0) ≡ true → P (refused (tickRefusal c now) c))
@@ -242,7 +247,7 @@ fault-in f204 = refl
 pub receive-number : (c : Connection) (now : Count) (message : List ℕ) (room : ℕ) → receiveOutcome c now message room .number among ruleOf Call.Receive .numbers ≡ true
 unfolding refusing
 receive-number c now message room =
-    receive-by (In (ruleOf Call.Receive .numbers)) c now message room (λ _. receive-refusal-by (λ k. k among ruleOf Call.Receive .numbers ≡ true) refl refl c now room refl refl refl) (λ _ _. refl)
+    receive-by (In (ruleOf Call.Receive .numbers)) (λ _ _ x. x) c now message room (λ _. receive-refusal-by (λ k. k among ruleOf Call.Receive .numbers ≡ true) refl refl c now room refl refl refl) (λ _ _. refl)
     (λ _. record {
       malformed-open = λ _. refl;
       malformed-set-up = λ _. refl;
@@ -290,6 +295,11 @@ Fair c o = callersFault (o .number) ≡ true → Unchanged c o
 kept-fair : (k : ℕ) (c : Connection) → Fair c (refused k c)
 kept-fair k c e = record { same-record = refl; nothing-written = refl; nothing-delivered = refl; not-released = refl }
 
+fair-ageless : (c : Connection) → Ageless (Fair c)
+fair-ageless c age o f e =
+    let u = f e in
+    record { same-record = u .same-record; nothing-written = u .nothing-written; nothing-delivered = u .nothing-delivered; not-released = u .not-released }
+
 -- an answer that is no 1xx
 other : {X : Type 0} (k : ℕ) → callersFault k ≡ false → callersFault k ≡ true → X
 other k p q = absurd (subst T (sym (sym p ∙ q)) tt)
@@ -320,7 +330,7 @@ pub receive-refusal-changes-nothing : (c : Connection) (now : Count) (message : 
     → callersFault (receiveOutcome c now message room .number) ≡ true → Unchanged c (receiveOutcome c now message room)
 unfolding refusing
 receive-refusal-changes-nothing c now message room =
-    receive-by (Fair c) c now message room (λ _. kept-fair (receiveRefusal c now room) c) (λ _ _. other 207 refl)
+    receive-by (Fair c) (fair-ageless c) c now message room (λ _. kept-fair (receiveRefusal c now room) c) (λ _ _. other 207 refl)
     (λ _. record {
       malformed-open = λ _. other 201 refl;
       malformed-set-up = λ _. other 201 refl;
@@ -426,7 +436,7 @@ pub receive-released : (c : Connection) (now : Count) (message : List ℕ) (room
     → receiveOutcome c now message room .released ≡ releasedBy c (receiveOutcome c now message room .number)
 unfolding refusing releasedBy
 receive-released c now message room =
-    receive-by (Rel c) c now message room
+    receive-by (Rel c) (λ _ _ x. x) c now message room
     (λ _. receive-refusal-by (Refusal c) refl refl c now room refl refl refl)
     (λ _ e. simp (not-open c now e))
     (λ _. record {

@@ -19,7 +19,7 @@ use Rattle.connection.specs.Connection.{opened, clocked, counted, heard, heardO
 use Rattle.connection.proofs.Ranges.{or-off, in-range}
 use Rattle.peer_faults.specs.declared.Expectation.{Expectation}
 use Rattle.peer_faults.specs.declared.Expectation.the-variants.{Expected}
-use Rattle.peer_faults.specs.Faults.{expectationOf, numberJudged, notAhead, beyondN, wrongEcho, checkFailed, ageNumber, gap, faultOf}
+use Rattle.peer_faults.specs.Faults.{expectationOf, numberJudged, notAhead, beyondN, wrongEcho, checkFailed, ageFault, gap, faultNumber}
 use Rattle.what_follows.specs.declared.Outcome.{Outcome}
 use Rattle.what_follows.specs.Follows.{dataTaken, messageTaken, refusing, raised, openFollowsOf, followsOf, metOf, stepOf}
 use Rattle.calls.specs.Calls.{receiveRefusal, expired, receiveOutcome}
@@ -62,7 +62,7 @@ module _ (c : Connection) (now : Count) (message : List ℕ) where
       → Remembers message now (receiveOutcome c now message room .next)
   unfolding refusing
   receive-remembers o room =
-      receive-by Kept c now message room
+      receive-by Kept (λ _ _ x. x) c now message room
       (λ e. other (receiveRefusal c now room) (receive-refusal-by (λ k. not (eqb k 0) ≡ true → k among rememberedWith ≡ false)
       (λ z. sym z) (λ _. refl) c now room (λ _. refl) (λ _. refl) (λ _. refl) e) c)
       (λ _ _. gone 207 _)
@@ -132,15 +132,15 @@ module _ (c : Connection) (now : Count) (h : Header) (t : Tail) (o : c .phase �
   unfolding followsOf messageTaken dataTaken rememberedBy
   taken-moves e = rw type (λ _. sym e)
 
-  follows : ByNumber c now h (followsOf c now h t (faultOf c now h t))
-  unfolding faultOf
+  follows : ByNumber c now h (followsOf c now h t (faultNumber c now h t))
+  unfolding faultNumber
   follows =
       both By (notAhead (h .kind) d) _ _ (λ a. dropped a) (λ a.
       both By (beyondN (h .kind) d (c .settings .n)) _ _ (λ _. too-far) (λ b.
       both By (wrongEcho (h .kind) (h .«last_peer_stamp» .0) (c .«wait_start» .0)) _ _ (λ _. fault-moves (moves a b) 208 refl refl refl) (λ _.
       both By (checkFailed c (h .kind) t) _ _ (λ _. fault-moves (moves a b) 209 refl refl refl) (λ _.
-      both By (eqb (ageNumber c now h) 206) _ _ (λ _. fault-moves (moves a b) 206 refl refl refl) (λ _.
-      both By (eqb (ageNumber c now h) 205) _ _ (λ _. fault-moves (moves a b) 205 refl refl refl) (λ _.
+      both By (eqb (ageFault c now h .number) 206) _ _ (λ _. fault-moves (moves a b) 206 refl refl refl) (λ _.
+      both By (eqb (ageFault c now h .number) 205) _ _ (λ _. fault-moves (moves a b) 205 refl refl refl) (λ _.
       both By (gap (h .kind) d) _ _ (λ _. fault-moves (moves a b) 204 refl refl refl) (λ _. taken-moves (moves a b))))))))
     where
       By : ℕ → Type 0

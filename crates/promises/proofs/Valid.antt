@@ -55,7 +55,7 @@ use Rattle.calls.specs.Calls.{
 }
 use Rattle.promises.specs.Promises.{Valid, Stays}
 use Rattle.calls.proofs.Replies.{both, none-refused, row-off, then-off}
-use Rattle.promises.proofs.Promises.{Ways, receive-by, tick-by}
+use Rattle.promises.proofs.Promises.{Ageless, Ways, receive-by, tick-by}
 
 pub no-way : {X : Type 0} → true ≡ false → X
 no-way e = absurd (subst T e tt)
@@ -83,6 +83,9 @@ sound-is c a b d = rw (a, b, d)
 
 gone : {o : Outcome} → o .released ≡ true → o .next ≡ allZero → Stays o
 gone r z = record { zero = λ _. z; valid = λ f. no-way (sym r ∙ f) }
+
+stays-ageless : Ageless Stays
+stays-ageless age o s = record { zero = s .zero; valid = s .valid }
 
 goes-on : {o : Outcome} → o .released ≡ false → Valid (o .next) → Stays o
 goes-on r v = record { zero = λ t. no-way (sym t ∙ r); valid = λ _. v }
@@ -143,7 +146,7 @@ clocked-sound c now s = record { settings = s .settings; phase = s .phase; error
 pub receive-stays : (c : Connection) (now : Count) (message : List ℕ) (room : ℕ) → Valid c → Stays (receiveOutcome c now message room)
 unfolding refusing
 receive-stays c now message room v =
-    receive-by Stays c now message room (λ _. goes-on refl v) (λ _ _. gone refl refl) (λ e. leaves (receive-sound c now room e))
+    receive-by Stays stays-ageless c now message room (λ _. goes-on refl v) (λ _ _. gone refl refl) (λ e. leaves (receive-sound c now room e))
   where
     leaves : Sound c → Ways Stays c now (parsedOf message)
     leaves s =

@@ -5,7 +5,11 @@ use mathlib.Core.Bool.{Bool, true, false, not, _&&_, _||_}
 use mathlib.Core.List.{List, [], _∷_}
 use mathlib.Core.Logic.{_⊎_}
 use lib.Dec.{ltb, leb, eqb}
+use lib.IntN.{ℤ, pos}
+use lib.Signed.{ltZ, leZ}
 use Rattle.rules.specs.Rows.{when_answer_else_}
+use Rattle.clock.specs.Clock.{noAge}
+use Rattle.clock.specs.declared.Age.{Age}
 use Rattle.clock.specs.declared.Count.{Count}
 use Rattle.number.specs.Number.{distanceOf}
 use Rattle.message.specs.Read.{parsedOf}
@@ -15,6 +19,7 @@ use Rattle.message.specs.declared.Parsed.{Parsed}
 use Rattle.connection.specs.declared.Connection.{Connection}
 use Rattle.connection.specs.declared.Peer.{Peer}
 use Rattle.connection.specs.Connection.{closed, opened, unsound, allZero, heardOf}
+use Rattle.peer_faults.specs.Faults.{timeCheckOf, reportsAge}
 use Rattle.what_follows.specs.declared.Outcome.{Outcome}
 use Rattle.what_follows.specs.declared.Reply.the-variants.{Nothing}
 
@@ -80,3 +85,21 @@ unfoldable pub rememberedBy : Connection → Count → Header → Peer
 rememberedBy c now h =
     when oneToN c (distanceOf (h .number) (c .peer .number)) answer heardOf h now else
     c .peer
+
+-- AGE-7: an age is reported with a 0, 204, 205 or 206 of a connection that was open before the call
+unfoldable pub tellsAge : Connection → ℕ → Bool
+tellsAge c k = eqb (c .phase) opened && reportsAge k
+
+-- AGE-7: with these the age of the message's time check; AGE-8: with any other answer, and where no message is judged, 0
+abbrev pub reportedBy : Connection → Count → Parsed → ℕ → Age
+reportedBy c now Parsed.Malformed k = noAge
+reportedBy c now (Parsed.Whole h t) k =
+    when tellsAge c k answer timeCheckOf c now h .age else
+    noAge
+
+-- AGE-7: which of the four it is goes by the age that is reported: 206 exactly where it is below 0 (AGE-2), 205 exactly where it is above
+-- T_max (AGE-3), 0 or 204 exactly where it is in 0 .. T_max (AGE-4, AGE-5)
+pub record GoesByAge (t-max : ℕ) (age : ℤ) (k : ℕ) : Type 0 where
+  pub future : eqb k 206 ≡ ltZ age (pos 0)
+  pub late : eqb k 205 ≡ ltZ (pos t-max) age
+  pub fresh : eqb k 0 || eqb k 204 ≡ leZ (pos 0) age && leZ age (pos t-max)

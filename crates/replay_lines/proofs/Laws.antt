@@ -7,12 +7,13 @@ use mathlib.Core.List.{List, _++_}
 use native.Mathlib.Omega.{arith}
 use lib.ListN.{length}
 use Rattle.pieces.specs.Machine.{Lawful}
-use Rattle.trace.specs.Record.{mostRecord, recordOf}
+use Rattle.trace.specs.Record.{mostRecord, recordBytes, recordOf}
+use Rattle.trace.specs.Call.{madeOn}
 use Rattle.trace.specs.declared.Next.{Next}
 use Rattle.trace.specs.declared.Next.the-variants.{End, Bad, Whole}
 use Rattle.trace.proofs.Records.{whole-fits, reads-no-more, same-bytes}
 use Rattle.replay_lines.specs.Printed.{mostLine}
-use Rattle.replay_lines.specs.Replay.{replayed, turnOn, turnOf, replay}
+use Rattle.replay_lines.specs.Replay.{anyOut, replayed, turnOn, turnOf, replay}
 use Rattle.replay_lines.specs.declared.Progress.{Progress}
 use Rattle.replay_lines.proofs.Lines.{line-fits, end-in-line, bad-fits}
 
@@ -47,7 +48,7 @@ text-fits p s = by (recordOf s)
     by : (n : Next) → length (turnOn p n s .text) ≤ mostLine
     by End = end-in-line _
     by Bad = bad-fits _
-    by (Whole r) = line-fits (r .slot) _
+    by (Whole r) = let a = madeOn (p .table) r (recordBytes s r) anyOut .answer in line-fits (r .slot) (a .number) (a .age)
 
 pub replay-laws : Lawful replay
 replay-laws = record { uses-no-more = used-fits; uses-or-stops = used-or-stopped; sees-no-more = same-turn; prints-no-more = text-fits }

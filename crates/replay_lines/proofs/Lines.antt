@@ -6,11 +6,14 @@ use mathlib.Core.Bool.{Bool, true, false}
 use mathlib.Core.List.{List, [], _∷_, _++_}
 use native.Mathlib.Omega.{arith}
 use lib.Dec.{ltb}
+use lib.IntN.{pos, natAbs}
 use lib.ListN.{length, length-append}
+use lib.Signed.{ltZ}
 use Rattle.rules.specs.Rows.{when_answer_else_}
+use Rattle.clock.specs.declared.Age.{Age}
 use Rattle.text.specs.Ascii.{ascii}
 use Rattle.text.specs.Text.{digit, decimalIn, mostDigits, decimalOf}
-use Rattle.text.specs.Line.{endOf, mostEnd, numberWord}
+use Rattle.text.specs.Line.{endOf, mostEnd, numberWord, signedWord, mostSigned, ageWord}
 use Rattle.replay_lines.specs.Printed.{lineOf, badOf, mostLine}
 
 digits-fit : (most n : ℕ) → length (decimalIn most n) ≤ most
@@ -26,15 +29,21 @@ digits-fit (suc most) n = by (ltb n 10) (digits-fit most (n / 10))
 decimal-fits : (n : ℕ) → length (decimalOf n) ≤ mostDigits
 decimal-fits n = digits-fit mostDigits n
 
-pub line-fits : (slot number : ℕ) → length (lineOf slot number) ≤ mostLine
-line-fits slot number =
+signed-fits : (negative : Bool) (size : ℕ) → length (signedWord negative size) ≤ mostSigned
+signed-fits true size = omega (arith, decimal-fits size, length-append (ascii " -") (decimalOf size))
+signed-fits false size = omega (arith, decimal-fits size, length-append (ascii " ") (decimalOf size))
+
+pub line-fits : (slot number : ℕ) (age : Age) → length (lineOf slot number age) ≤ mostLine
+line-fits slot number age =
     omega (
       arith,
       decimal-fits slot,
       decimal-fits number,
-      length-append (decimalOf slot) (ascii " "),
-      length-append (decimalOf slot ++ ascii " ") (decimalOf number),
-      length-append (decimalOf slot ++ ascii " " ++ decimalOf number) (ascii "\n"),
+      signed-fits (ltZ (age .0) (pos 0)) (natAbs (age .0)),
+      length-append (ascii " ") (decimalOf number),
+      length-append (decimalOf slot) (numberWord number),
+      length-append (decimalOf slot ++ numberWord number) (ageWord age),
+      length-append (decimalOf slot ++ numberWord number ++ ageWord age) (ascii "\n"),
     )
 
 end-fits : (count : ℕ) → length (endOf count) ≤ mostEnd

@@ -9,6 +9,8 @@ use borrow.Author.Tests.{le-leb, lt-leb, lt-ltb, le-ltb}
 use lib.ListN.{length, set, length-replicate}
 use lib.Seq.{set-getD}
 use Rattle.rules.specs.Rows.{when_answer_else_}
+use Rattle.clock.specs.Clock.{noAge}
+use Rattle.clock.specs.declared.Age.{Age}
 use Rattle.clock.specs.declared.Count.{Count}
 use Rattle.connection.specs.declared.Connection.{Connection}
 use Rattle.connection.specs.Connection.{allZero}
@@ -104,7 +106,7 @@ module _ (p : Progress) (r : Record) (c : Connection) (count : ℕ) (holds : Hol
 
     -- a whole record with a slot
     pub call-turn : {called : Called} {lentAfter outAfter : List ℕ} {at next : ℕ} → leaves called lentAfter ≡ madeBy c r bytes lent
-        → PutAt out at (lineOf (r .slot) (called .answer .number)) outAfter next
+        → PutAt out at (lineOf (r .slot) (called .answer .number) (called .answer .age)) outAfter next
         → TurnedOn p (Whole r) rest lent out at lentAfter outAfter (turnedTo (called .next) (sizeOf r) (count + 1) false next)
     call-turn {called} {lentAfter} {outAfter} {at} {next} left put =
         let stored : storedAt (p .table) (r .slot) (leaves called lentAfter) ≡ madeOn (p .table) r bytes lent =
@@ -116,15 +118,15 @@ module _ (p : Progress) (r : Record) (c : Connection) (count : ℕ) (holds : Hol
               ∙ ap (λ (n : ℕ). progressOf (madeOn (p .table) r bytes anyOut .table) (n + 1) false) (sym (holds .counted));
           used = refl;
           put =
-              subst (λ (n : ℕ). PutAt out at (lineOf (r .slot) n) outAfter next)
-              (ap (λ (l : LeftAt). l .answer .number) stored ∙ ap (λ (a : Answer). a .number) (any .0)) put;
+              subst (λ (a : Answer). PutAt out at (lineOf (r .slot) (a .number) (a .age)) outAfter next)
+              (ap (λ (l : LeftAt). l .answer) stored ∙ any .0) put;
           leaves = ap (λ (l : LeftAt). l .out) stored;
         }
 
   -- a whole record whose slot is none
-  pub refused-turn : {outAfter : List ℕ} {at next : ℕ} → mostRecords ≤ r .slot → PutAt out at (lineOf (r .slot) 101) outAfter next
+  pub refused-turn : {outAfter : List ℕ} {at next : ℕ} {age : Age} → mostRecords ≤ r .slot → age ≡ noAge → PutAt out at (lineOf (r .slot) 101 age) outAfter next
       → TurnedOn p (Whole r) rest lent out at lent outAfter (turnedTo c (sizeOf r) (count + 1) false next)
-  refused-turn {outAfter} {at} {next} h put =
+  refused-turn {outAfter} {at} {next} {age} h e put =
       let none = made-none (p .table) r bytes lent (holds .size) h in
       let slot = slot-none (r .slot) h in
       let kept : set (p .table) (slotIn (r .slot)) c ≡ p .table =
@@ -135,8 +137,8 @@ module _ (p : Progress) (r : Record) (c : Connection) (count : ℕ) (holds : Hol
             ∙ ap (λ (n : ℕ). progressOf (madeOn (p .table) r bytes anyOut .table) (n + 1) false) (sym (holds .counted));
         used = refl;
         put =
-            subst (λ (n : ℕ). PutAt out at (lineOf (r .slot) n) outAfter next)
-            (sym (ap (λ (l : LeftAt). l .answer .number) none) ∙ ap (λ (a : Answer). a .number) (any .0)) put;
+            subst (λ (a : Answer). PutAt out at (lineOf (r .slot) (a .number) (a .age)) outAfter next)
+            (sym (ap (λ (l : LeftAt). l .answer) none) ∙ any .0) (subst (λ (a : Age). PutAt out at (lineOf (r .slot) 101 a) outAfter next) e put);
         leaves = sym (ap (λ (l : LeftAt). l .out) none);
       }
 

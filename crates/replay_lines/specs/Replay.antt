@@ -42,7 +42,7 @@ stops p text =
 abbrev pub replayed : Progress → Record → List ℕ → Turn Progress
 replayed p r bytes =
     record {
-      text = lineOf (r .slot) (madeOn (p .table) r bytes anyOut .answer .number);
+      text = lineOf (r .slot) (madeOn (p .table) r bytes anyOut .answer .number) (madeOn (p .table) r bytes anyOut .answer .age);
       used = sizeOf r;
       next = record { table = madeOn (p .table) r bytes anyOut .table; count = p .count + 1; stopped = false };
       lent = λ (out : List ℕ). madeOn (p .table) r bytes out .out;

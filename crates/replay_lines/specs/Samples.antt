@@ -10,6 +10,6 @@ use Rattle.replay_lines.specs.Replay.{replayOf}
 -- TRACE-13, TRACE-15: two traces, and what is printed for each
 pub record Samples : Type 0 where
   -- TRACE-13: one tick on slot 0
-  pub one-tick : replayOf (rowOf widths (mark ∷ tickKind ∷ 0 ∷ 0 ∷ 0 ∷ [])) ≡ ascii "slot answer\n0 102\nend 1\n"
+  pub one-tick : replayOf (rowOf widths (mark ∷ tickKind ∷ 0 ∷ 0 ∷ 0 ∷ [])) ≡ ascii "slot answer age\n0 102 0\nend 1\n"
   -- TRACE-15: an empty file
-  pub empty : replayOf [] ≡ ascii "slot answer\nend 0\n"
+  pub empty : replayOf [] ≡ ascii "slot answer age\nend 0\n"

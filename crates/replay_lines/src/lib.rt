@@ -12,6 +12,7 @@ ghost use Rattle.trace.specs.declared.Next.{Next};
 ghost use Rattle.replay_lines.specs.Printed.{heading, lineOf, badOf, mostLine};
 ghost use Rattle.replay_lines.specs.Replay.{startOf, replay};
 ghost use Rattle.replay_lines.specs.Slot.{slotOf, WholeFits, TurnsAny};
+use clock::Age;
 use connection::Connection;
 use table::MOST_RECORDS;
 use trace::MOST_RECORD;
@@ -20,9 +21,9 @@ use trace::Record;
 use window::Window;
 
 // The most bytes that are put at a turn.
-pub const MOST_LINE: usize = 42;
+pub const MOST_LINE: usize = 64;
 
-// CALL-101: the answer to a slot that is none.
+// CALL-101: the answer to a slot that is none; AGE-8: no age goes with it.
 const BAD_SLOT: u16 = 101;
 
 // How far a replay is: the table, how many records were replayed, and whether it has stopped.
@@ -66,18 +67,18 @@ pub fn put_heading(out: &mut [u8], at: usize) -> usize
     requires { ⌜ at + mostLine ≤ length (now out) ⌝ }
     ensures { λ r. ⌜ PutAt (now (out .entry)) at heading (now (out .exit)) r ⌝ }
 {
-    text::put(out, at, b"slot answer\n")
+    text::put(out, at, b"slot answer age\n")
 }
 
 // The line of a record.
-fn put_line(out: &mut [u8], at: usize, slot: u8, number: u16) -> usize
+fn put_line(out: &mut [u8], at: usize, slot: u8, number: u16, age: Age) -> usize
     requires { ⌜ at + mostLine ≤ length (now out) ⌝ }
-    ensures { λ r. ⌜ PutAt (now (out .entry)) at (lineOf slot number) (now (out .exit)) r ⌝ }
+    ensures { λ r. ⌜ PutAt (now (out .entry)) at (lineOf slot number age) (now (out .exit)) r ⌝ }
 {
     let after_slot = text::put_decimal(out, at, slot as u64);
-    let after_space = text::put(out, after_slot, b" ");
-    let after_number = text::put_decimal(out, after_space, number as u64);
-    text::put(out, after_number, b"\n")
+    let after_number = text::put_number(out, after_slot, number as u64);
+    let after_age = text::put_age(out, after_number, age);
+    text::put(out, after_age, b"\n")
 }
 
 // `bad` and the last line.
@@ -127,18 +128,19 @@ fn replayed(
             used,
             count: count + 1,
             stopped: false,
-            at: put_line(out, at, r.slot, BAD_SLOT),
+            at: put_line(out, at, r.slot, BAD_SLOT, Age::none()),
         };
     }
     let made = trace::made_by(c, r, s, lent);
     let record = made.next;
     let answer = made.answer;
+    let age = answer.age;
     Turned {
         record,
         used,
         count: count + 1,
         stopped: false,
-        at: put_line(out, at, r.slot, answer.number),
+        at: put_line(out, at, r.slot, answer.number, age),
     }
 }
 

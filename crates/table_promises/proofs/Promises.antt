@@ -2,7 +2,7 @@
 -- Assumes nothing.
 use Prim.Native.Nat.{ℕ, _<_}
 use mathlib.Core.Path.{_≡_, refl, sym, subst, _∙_, ap}
-use mathlib.Core.Bool.{Bool, true, false, not}
+use mathlib.Core.Bool.{Bool, true, false, not, _&&_}
 use mathlib.Core.List.{List}
 use mathlib.Core.Logic.{inl}
 use Rattle.rules.specs.Rows.{when_answer_else_}
@@ -13,13 +13,15 @@ use lib.Seq.{sets, getD-set-same, getD-set-other, set-getD}
 use Rattle.clock.specs.declared.Count.{Count}
 use Rattle.connection.specs.declared.Connection.{Connection}
 use Rattle.connection.specs.Connection.{opened, allZero}
+use Rattle.peer_faults.specs.Faults.{reportsAge}
 use Rattle.what_follows.specs.declared.Outcome.{Outcome}
 use Rattle.what_follows.specs.declared.Reply.{Reply}
 use Rattle.calls.specs.declared.Call.{Call}
 use Rattle.calls.specs.Calls.{ruleOf, outcomeOf, replyBytes, refusal, made}
-use Rattle.promises.specs.Promises.{_among_, callersFault, Unchanged, Valid, Stays, rememberedWith, Remembers}
+use Rattle.promises.specs.Promises.{_among_, callersFault, Unchanged, Valid, Stays, rememberedWith, Remembers, tellsAge, reportedBy, GoesByAge}
 use Rattle.promises.proofs.Promises.{call-number, call-refusal-changes-nothing}
 use Rattle.promises.proofs.Remembered.{receive-remembers}
+use Rattle.promises.proofs.Reported.{none-with, call-reports, receive-goes-by-age}
 use Rattle.promises.proofs.Valid.{call-stays}
 use Rattle.table.specs.Table.{badSlot, recordAt, LeftAt, leavesAt, storedAt, madeAt}
 use Rattle.table.proofs.Slot.{in-range}
@@ -97,6 +99,15 @@ module _ (table : List Connection) (slot : ℕ) (call : Call) (now : Count) (len
       (λ e. subst (λ (l : LeftAt). l .answer .number among ruleOf call .numbers ≡ true) (sym (refused e)) (listed-101 call))
       (λ e. subst (λ (l : LeftAt). l .answer .number among ruleOf call .numbers ≡ true) (sym (taken e)) (call-number call (recordAt table slot) now lent (length out)))
 
+  age-reported : left .answer .age ≡ reportedBy (recordAt table slot) now (ruleOf call .message lent) (left .answer .number)
+  unfolding reportsAge
+  age-reported = either (badSlot (length table) slot)
+      (λ e. subst Reports (sym (refused e)) (none-with (recordAt table slot) now (ruleOf call .message lent) 101 refl))
+      (λ e. subst Reports (sym (taken e)) (call-reports call (recordAt table slot) now lent (length out)))
+    where
+      Reports : LeftAt → Type 0
+      Reports l = l .answer .age ≡ reportedBy (recordAt table slot) now (ruleOf call .message lent) (l .answer .number)
+
   taken-untouched : Unchanged (recordAt table slot) comes → Untouched table out (storedAt table slot (made call (recordAt table slot) now lent out))
   taken-untouched u =
       record {
@@ -160,6 +171,8 @@ promises table slot call now lent out =
     record {
       next-record = λ e. next-there table slot call now lent out ∙ rw e refl;
       same-number = λ e. ap (λ (l : LeftAt). l .answer .number) (taken table slot call now lent out e);
+      same-age = λ e. ap (λ (l : LeftAt). l .answer .age) (taken table slot call now lent out e);
+      age-reported = age-reported table slot call now lent out;
       changes-no-other = changes-no-other table slot call now lent out;
       reads-no-other = λ other agree. reads-no-other slot call now lent out table other agree;
       number-listed = number-listed table slot call now lent out;
@@ -180,3 +193,24 @@ receive-remembers-at-table table slot now lent out o n r = either (badSlot (leng
     (receive-remembers (recordAt table slot) now lent o (length out)
     (sym (ap (λ (l : LeftAt). l .answer .number among rememberedWith) (taken table slot Call.Receive now lent out e)) ∙ n)
     (sym (ap (λ (l : LeftAt). l .answer .released) (taken table slot Call.Receive now lent out e)) ∙ r)))
+
+-- AGE-7: which of 0, 204, 205 and 206 a receive on an open slot answers goes by the age that it reports
+pub receive-goes-by-age-at-table : (table : List Connection) (slot : ℕ) (now : Count) (lent out : List ℕ)
+    → tellsAge (recordAt table slot) (madeAt table slot Call.Receive now lent out .answer .number) ≡ true
+    → GoesByAge (recordAt table slot .settings .«t_max») (madeAt table slot Call.Receive now lent out .answer .age .0)
+    (madeAt table slot Call.Receive now lent out .answer .number)
+unfolding tellsAge reportsAge
+receive-goes-by-age-at-table table slot now lent out n = either (badSlot (length table) slot)
+    (λ e. absurd (none (eqb (recordAt table slot .phase) opened) (subst Tells (refused table slot Call.Receive now lent out e) n)))
+    (λ e. subst Goes (sym (taken table slot Call.Receive now lent out e))
+    (receive-goes-by-age (recordAt table slot) now lent (length out) (subst Tells (taken table slot Call.Receive now lent out e) n)))
+  where
+    Tells : LeftAt → Type 0
+    Tells l = tellsAge (recordAt table slot) (l .answer .number) ≡ true
+
+    Goes : LeftAt → Type 0
+    Goes l = GoesByAge (recordAt table slot .settings .«t_max») (l .answer .age .0) (l .answer .number)
+
+    none : (b : Bool) → b && false ≡ true → ⊥
+    none true q = subst T (sym q) tt
+    none false q = subst T (sym q) tt

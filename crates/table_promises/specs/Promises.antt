@@ -10,7 +10,7 @@ use Rattle.connection.specs.declared.Connection.{Connection}
 use Rattle.connection.specs.Connection.{allZero}
 use Rattle.calls.specs.declared.Call.{Call}
 use Rattle.calls.specs.Calls.{ruleOf, outcomeOf}
-use Rattle.promises.specs.Promises.{_among_, callersFault, Valid}
+use Rattle.promises.specs.Promises.{_among_, callersFault, Valid, reportedBy}
 use Rattle.table.specs.Table.{badSlot, recordAt, LeftAt, madeAt}
 
 -- ---- TABLE-3, TABLE-4: another slot is neither read nor changed
@@ -61,6 +61,11 @@ pub record Promises (table : List Connection) (slot : ℕ) (call : Call) (now : 
       → recordAt (madeAt table slot call now lent out .table) slot ≡ outcomeOf call (recordAt table slot) now lent (length out) .next
   pub same-number : badSlot (length table) slot ≡ false
       → madeAt table slot call now lent out .answer .number ≡ outcomeOf call (recordAt table slot) now lent (length out) .number
+  pub same-age : badSlot (length table) slot ≡ false
+      → madeAt table slot call now lent out .answer .age ≡ outcomeOf call (recordAt table slot) now lent (length out) .age
+  -- AGE-7, AGE-8: the age that it reports
+  pub age-reported : madeAt table slot call now lent out .answer .age
+      ≡ reportedBy (recordAt table slot) now (ruleOf call .message lent) (madeAt table slot call now lent out .answer .number)
   pub changes-no-other : ChangesNoOther table slot (madeAt table slot call now lent out .table)
   pub reads-no-other : (other : List Connection) → Agree slot table other
       → SameThere slot (madeAt table slot call now lent out) (madeAt other slot call now lent out)

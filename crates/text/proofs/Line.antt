@@ -7,22 +7,15 @@ use mathlib.Core.List.{List, [], _∷_, _++_}
 use native.Mathlib.Omega.{arith}
 use borrow.Author.Tests.{eq-eqb, ne-eqb}
 use lib.Dec.{eqb}
-use lib.IntN.{pos, natAbs}
 use lib.ListN.{length, take, drop, set, getD}
 use lib.Seq.{sets, drop-cons}
-use lib.Signed.{ltZ}
-use Rattle.clock.specs.declared.Offset.{Offset}
 use Rattle.text.specs.Ascii.{ascii}
-use Rattle.text.specs.Text.{PutAt, digit, decimalOf}
-use Rattle.text.specs.Line.{offsetWord, digitsOf, bytesWord, byteBefore, allBefore, writtenWords}
+use Rattle.text.specs.Text.{PutAt, digit}
+use Rattle.text.specs.Line.{digitsOf, bytesWord, byteBefore, allBefore, writtenWords}
 
 -- what was put, by another name
 pub named : {before after : List ℕ} {at next : ℕ} (text other : List ℕ) → text ≡ other → PutAt before at text after next → PutAt before at other after next
 named {before} {after} {at} {next} text other e p = subst (λ (word : List ℕ). PutAt before at word after next) e p
-
-pub offset-word : (offset : Offset) (negative : Bool) (size : ℕ) → negative ≡ ltZ (offset .0) (pos 0) → size ≡ natAbs (offset .0)
-    → cond negative (ascii " -") (ascii " ") ++ decimalOf size ≡ offsetWord offset
-offset-word offset negative size n m = cc
 
 pub two-each : (s : List ℕ) → length (digitsOf s) ≡ 2 * length s
 two-each [] = refl

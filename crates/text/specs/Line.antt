@@ -9,6 +9,7 @@ use lib.ListN.{take, drop}
 use lib.Signed.{ltZ}
 use Rattle.text.specs.Ascii.{ascii}
 use Rattle.text.specs.Text.{mostDigits, digit, decimalOf}
+use Rattle.clock.specs.declared.Age.{Age}
 use Rattle.clock.specs.declared.Offset.{Offset}
 
 -- a number, and the most bytes of it:
@@ -25,12 +26,26 @@ endOf count = ascii "end" ++ numberWord count ++ ascii "\n"
 abbrev pub mostEnd : ℕ
 mostEnd = 3 + mostNumber + 1
 
--- an offset, its size, after a minus where it is negative; and the most bytes of it:
+-- a size, after a minus where it is that of a negative number; and the most bytes of it:
+abbrev pub signedWord : Bool → ℕ → List ℕ
+signedWord negative size = cond negative (ascii " -") (ascii " ") ++ decimalOf size
+
+abbrev pub mostSigned : ℕ
+mostSigned = 2 + mostDigits
+
+-- an offset, and the most bytes of it:
 abbrev pub offsetWord : Offset → List ℕ
-offsetWord offset = cond (ltZ (offset .0) (pos 0)) (ascii " -") (ascii " ") ++ decimalOf (natAbs (offset .0))
+offsetWord offset = signedWord (ltZ (offset .0) (pos 0)) (natAbs (offset .0))
 
 abbrev pub mostOffset : ℕ
-mostOffset = 2 + mostDigits
+mostOffset = mostSigned
+
+-- TRACE-13: an age, and the most bytes of it:
+abbrev pub ageWord : Age → List ℕ
+ageWord age = signedWord (ltZ (age .0) (pos 0)) (natAbs (age .0))
+
+abbrev pub mostAge : ℕ
+mostAge = mostSigned
 
 -- two digits for each byte
 abbrev pub digitsOf : List ℕ → List ℕ

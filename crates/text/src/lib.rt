@@ -1,10 +1,11 @@
-// Text in an out buffer: numbers, offsets and bytes, one word after the other; room for it, and writing it; the choice between two words.
+// Text in an out buffer: numbers, offsets, ages and bytes, one word after the other; room for it, and writing it; the choice between two words.
 ghost use mathlib.Core.Path.{_≡_};
 ghost use Prim.Native.Nat.{_+_, _*_, _≤_, _<_};
 ghost use lib.ListN.{length, take, drop};
 ghost use Rattle.text.specs.Text.{PutAt, placeOf, digit, mostDigits, decimalOf, sameWord, chosenOf};
-ghost use Rattle.text.specs.Line.{numberWord, endOf, offsetWord, digitsOf, bytesWord, allBefore, writtenWords};
-ghost use Rattle.text.specs.Line.{mostNumber, mostEnd, mostOffset, mostBytesWord, mostWrittenWords};
+ghost use Rattle.text.specs.Line.{numberWord, endOf, signedWord, offsetWord, ageWord, digitsOf, bytesWord, allBefore, writtenWords};
+ghost use Rattle.text.specs.Line.{mostNumber, mostEnd, mostSigned, mostOffset, mostAge, mostBytesWord, mostWrittenWords};
+use clock::Age;
 use clock::Offset;
 
 // The most digits of a number, and the most bytes of one after a space.
@@ -84,17 +85,35 @@ pub fn put_end(out: &mut [u8], at: usize, count: u64) -> usize
     put(out, after_count, b"\n")
 }
 
-// An offset after a space: its size, after a minus where it is negative.
+// A size after a space, and after a minus where it is that of a negative number.
+fn put_signed(out: &mut [u8], at: usize, negative: bool, size: u32) -> usize
+    requires { ⌜ at + mostSigned ≤ length (now out) ⌝ }
+    ensures { λ r. ⌜ PutAt (now (out .entry)) at (signedWord negative size) (now (out .exit)) r ⌝ }
+    ensures { λ r. ⌜ r ≤ at + mostSigned ⌝ }
+{
+    if negative {
+        let next = put(out, at, b" -");
+        return put_decimal(out, next, size as u64);
+    }
+    put_number(out, at, size as u64)
+}
+
+// An offset after a space.
 pub fn put_offset(out: &mut [u8], at: usize, offset: Offset) -> usize
     requires { ⌜ at + mostOffset ≤ length (now out) ⌝ }
     ensures { λ r. ⌜ PutAt (now (out .entry)) at (offsetWord offset) (now (out .exit)) r ⌝ }
     ensures { λ r. ⌜ r ≤ at + mostOffset ⌝ }
 {
-    if offset.negative() {
-        let next = put(out, at, b" -");
-        return put_decimal(out, next, offset.size() as u64);
-    }
-    put_number(out, at, offset.size() as u64)
+    put_signed(out, at, offset.negative(), offset.size())
+}
+
+// TRACE-13: an age after a space.
+pub fn put_age(out: &mut [u8], at: usize, age: Age) -> usize
+    requires { ⌜ at + mostAge ≤ length (now out) ⌝ }
+    ensures { λ r. ⌜ PutAt (now (out .entry)) at (ageWord age) (now (out .exit)) r ⌝ }
+    ensures { λ r. ⌜ r ≤ at + mostAge ⌝ }
+{
+    put_signed(out, at, age.negative(), age.size())
 }
 
 // A digit of a number below 16.

@@ -23,9 +23,8 @@ use Rattle.promises.specs.Promises.{deliversTo}
 use Rattle.calls.proofs.Replies.{both}
 use Rattle.promises.proofs.Promises.{Fault, receive-by, receive-refusal-by}
 use Rattle.promises.proofs.Opening.{Expects, expected-is}
-use Rattle.promises.proofs.Delivery.{delivers-bytes-from-15}
+use Rattle.promises.proofs.Delivery.{is-data, delivers-bytes-from-15}
 use Rattle.true_age.specs.Claim.{HandsUp}
-use Rattle.true_age.proofs.Answers.{is-data}
 
 pub other-delivers-none : (c : Connection) (k : ℕ) → eqb k 0 ≡ false → eqb k 204 ≡ false → deliversTo c k ≡ false
 unfolding deliversTo
@@ -79,7 +78,7 @@ module _ (c : Connection) (now : Count) (message : List ℕ) where
   counted : (room : ℕ) → Counts (receiveOutcome c now message room)
   unfolding refusing
   counted room =
-      receive-by Counts c now message room
+      receive-by Counts (λ _ _ x. x) c now message room
       (λ e. none-but (receiveRefusal c now room) (not-true (eqb (receiveRefusal c now room) 0) e) (receive-refusal-by (λ k. eqb k 204 ≡ false) refl refl c now room refl refl refl))
       (λ _ _. none-but 207 refl refl)
       (λ _. record {
@@ -93,7 +92,7 @@ module _ (c : Connection) (now : Count) (message : List ℕ) where
         dropped = λ _. raised-counted (clocked c now) 202 0 (none-but 202 refl refl);
         too-far = λ _. none-but 203 refl refl;
         after-gap = λ h t w x o. raised-counted (heard (clocked c now) h now) 204 (t .«data») (all-with 204 (open-delivers 204 refl o) h t w
-            (is-data c now h t (eqb-true (c .phase) opened o) (expected-is (c .phase) (h .kind) x)));
+            (is-data c now message h (expected-is (c .phase) (h .kind) x) o));
         raising = λ h _ _ k f _ n _. raised-counted (heard (clocked c now) h now) k 0 (none-but k (fault-not-0 f) n);
       })
 

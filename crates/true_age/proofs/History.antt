@@ -293,7 +293,7 @@ module _ (W : World) (began : W .Moment) (role : ℕ) (settings : Settings) wher
     receive-holds : (room : ℕ) → After (receiveOutcome c now message room)
     unfolding refusing After At
     receive-holds room =
-        receive-by After c now message room (λ _ _. same u next c refl refl refl refl g) (λ _ _ _. over)
+        receive-by After (λ _ _ x. x) c now message room (λ _ _. same u next c refl refl refl refl g) (λ _ _ _. over)
         (λ _. record {
           malformed-open = λ _ _. same u next _ refl refl refl refl g;
           malformed-set-up = λ _ _. over;

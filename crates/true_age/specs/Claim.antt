@@ -18,10 +18,9 @@ use Rattle.message.specs.declared.Parsed.{Parsed}
 use Rattle.connection.specs.declared.Settings.{Settings}
 use Rattle.connection.specs.declared.Connection.{Connection}
 use Rattle.connection.specs.Connection.{opened}
-use Rattle.peer_faults.specs.Faults.{messageAge}
 use Rattle.what_follows.specs.Follows.{offsetBetween}
 use Rattle.calls.specs.Calls.{initiator, receiveOutcome, deliveredOf}
-use Rattle.promises.specs.Promises.{deliversTo}
+use Rattle.promises.specs.Promises.{deliversTo, tellsAge}
 use Rattle.true_age.specs.Clocks.{World, InBand, countOf}
 use Rattle.true_age.specs.History.{Ours, Written, Judged, History}
 
@@ -53,9 +52,10 @@ pub record Bounds (true-age e j d : ℕ) (age : ℤ) : Type 0 where
   pub least : (pos true-age +ℤ pos e -ℤ pos j +ℤ pos d) ≤ℤ age
   pub most : age ≤ℤ (pos true-age +ℤ pos e +ℤ pos j +ℤ pos d)
 
--- DEMAND-3, of one judged message, with E and T_max of the settings: age is the one that receive computes at the record c, and k its answer
+-- DEMAND-3, of one judged message, with E and T_max of the settings: k is what receive answers at the record c, and age what it reports
 pub record AgeClaim (settings : Settings) (true-age j d : ℕ) (age : ℤ) (c : Connection) (k : ℕ) : Type 0 where
-  pub bounds : Bounds true-age (settings .e) j d age
+  -- AGE-7: with a 0, 204, 205 or 206
+  pub bounds : tellsAge c k ≡ true → Bounds true-age (settings .e) j d age
   -- the answer goes by this age
   pub fresh-by-age : deliversTo c k ≡ true → verdictOf age (settings .«t_max») ≡ Fresh
   pub late-by-age : k ≡ 205 → verdictOf age (settings .«t_max») ≡ Late
@@ -73,8 +73,8 @@ pub record HandsUp (c : Connection) (message : List ℕ) (k delivered : ℕ) : T
   pub count : delivered ≡ (when deliversTo c k answer length (dataOf message) else 0)
   pub bytes : deliveredOf message delivered ≡ (when deliversTo c k answer dataOf message else [])
 
--- DEMAND-3, of the next receive on an open record, at a moment u: m is what is supposed of its message. OPEN-3: the age is the one by which
--- receive judges
+-- DEMAND-3, of the next receive on an open record, at a moment u: m is what is supposed of its message. OPEN-3: the age is the one that
+-- receive reports, by which it judges
 pub record Claim (W : World) (began : W .Moment) (j role : ℕ) (settings : Settings) (log : List (Ours W)) (t : W .Moment) (c : Connection)
     (u : W .Moment) (message : List ℕ) (room : ℕ) (h : Header) (m : Judged W began log u h) : Type 0 where
   -- E and T_max are the ones configured at begin
@@ -82,7 +82,7 @@ pub record Claim (W : World) (began : W .Moment) (j role : ℕ) (settings : Sett
   pub own : OwnSetUp W began role log t c
   -- AGE-6: up to 2^31
   pub age : (first : Ours W) → Written W 0 first log → trueAge W (m .sent) u + settings .e + j + transit W first < 2 ^ 31
-      → AgeClaim settings (trueAge W (m .sent) u) j (transit W first) (messageAge c (countOf (W .ours u)) h)
+      → AgeClaim settings (trueAge W (m .sent) u) j (transit W first) (receiveOutcome c (countOf (W .ours u)) message room .age .0)
       c (receiveOutcome c (countOf (W .ours u)) message room .number)
   -- bytes go up with no other answer
   pub hands-up : HandsUp c message

@@ -14,7 +14,8 @@ use lib.Signed.{mag}
 use Rattle.rules.specs.Modulo.{modulo}
 use Rattle.rules.specs.Rows.{when_answer_else_}
 use Rattle.rules.proofs.Integers.{cond-both, sum-is, less-is, less-pos}
-use Rattle.clock.specs.Clock.{wrapped, centred, goesBack, waitOf}
+use Rattle.clock.specs.Clock.{wrapped, centred, goesBack, waitOf, noAge}
+use Rattle.clock.specs.declared.Age.{Age}
 use Rattle.clock.specs.declared.Count.{Count}
 use Rattle.clock.specs.declared.Offset.{Offset}
 use Rattle.clock.proofs.Wrapped.{≈-sum, ≈-less, ≈-sym, ≈-trans, wrapped-≈, centred-≈, centred-is, centred-range, centred-same, waited-goes-on}
@@ -67,8 +68,9 @@ use Rattle.peer_faults.specs.declared.Expectation.the-variants.{Expected}
 use Rattle.what_follows.specs.declared.Reply.{Reply}
 use Rattle.what_follows.specs.declared.Reply.the-variants.{Send}
 use Rattle.what_follows.specs.declared.Outcome.{Outcome}
-use Rattle.peer_faults.specs.Faults.{expectationOf, numberJudged, notAhead, beyondN, gap, wrongEcho, accepts, checkFailed, ageNumber, faultOf}
+use Rattle.peer_faults.specs.Faults.{expectationOf, numberJudged, notAhead, beyondN, gap, wrongEcho, accepts, checkFailed, ageFault, faultNumber, reportsAge, ageWith}
 use Rattle.what_follows.specs.Follows.{
+  reporting,
   kept,
   released,
   sending,
@@ -173,14 +175,24 @@ no-refusal c now room l g r =
     )
 
 module _ (c : Connection) (now : Count) (message : List ℕ) (room : ℕ) (h : Header) (t : Tail) (l : Live c) (r : estSize ≤ room)
-    (p : parsedOf message ≡ Parsed.Whole h t) (x : expectationOf (c .phase) (h .kind) ≡ Expected) (k : ℕ) (f : faultOf c now h t ≡ k) where
-  judged : goesBack (now .0) (c .clock .0) ≡ false → expired c now ≡ false → receiveOutcome c now message room ≡ followsOf c now h t k
+    (p : parsedOf message ≡ Parsed.Whole h t) (x : expectationOf (c .phase) (h .kind) ≡ Expected) (k : ℕ) (f : faultNumber c now h t ≡ k)
+    (no-data : eqb (h .kind) application ≡ false) where
+  -- a message of set-up has no age
+  no-age : ageWith c now h k ≡ noAge
+  unfolding ageWith ageFault
+  no-age = rw no-data (none (reportsAge k))
+    where
+      none : (b : Bool) → (when b answer noAge else noAge) ≡ noAge
+      none true = refl
+      none false = refl
+
+  judged : goesBack (now .0) (c .clock .0) ≡ false → expired c now ≡ false → receiveOutcome c now message room ≡ reporting noAge (followsOf c now h t k)
   unfolding receiveOutcome stepOf
-  judged g e = rw (no-refusal c now room l g r, e, p, x, f)
+  judged g e = rw (no-refusal c now room l g r, e, p, x, f) (ap (λ (a : Age). reporting a (followsOf c now h t k)) no-age)
 
   -- a wait that began with the last call, and is within T_start
   judged-in-time : c .clock .0 ≡ c .«wait_start» .0 → waitOf (now .0) (c .«wait_start» .0) < c .settings .«t_start»
-      → receiveOutcome c now message room ≡ followsOf c now h t k
+      → receiveOutcome c now message room ≡ reporting noAge (followsOf c now h t k)
   unfolding expired
   judged-in-time e w =
       judged (rw e (waited-goes-on (now .0) (c .«wait_start» .0) (omega (arith, in-range (c .settings) (l .settings) .«t_start»))))
@@ -190,8 +202,8 @@ module _ (c : Connection) (now : Count) (message : List ℕ) (room : ℕ) (h : H
 check-decides : (c : Connection) (now : Count) (h : Header) (t : Tail) → offsetAnsw2 ≤ h .kind → h .kind ≤ offsetEnd
     → distanceOf (h .number) (c .peer .number) ≡ 1
     → outOfRange (c .settings) ≡ false → h .«last_peer_stamp» .0 ≡ c .«wait_start» .0 → (k : Bool) → checkFailed c (h .kind) t ≡ k
-    → faultOf c now h t ≡ (when k answer 209 else 0)
-unfolding faultOf notAhead beyondN gap numberJudged wrongEcho ageNumber
+    → faultNumber c now h t ≡ (when k answer 209 else 0)
+unfolding faultNumber notAhead beyondN gap numberJudged wrongEcho ageFault
 check-decides c now h t l u d s e k f =
     let no-data : eqb (h .kind) application ≡ false = ne-eqb (h .kind) application (λ q. omega arith) in
     simp (
@@ -261,13 +273,13 @@ module _ (i1 i2 r1 r3 : ℕ) where
 
 -- ---- the first message of a peer has no fault but a wrong echo
 
-no-fault-1 : (c : Connection) (now : Count) (h : Header) (t : Tail) → h .kind ≡ offsetStart → faultOf c now h t ≡ 0
-unfolding faultOf notAhead beyondN gap numberJudged wrongEcho checkFailed ageNumber
+no-fault-1 : (c : Connection) (now : Count) (h : Header) (t : Tail) → h .kind ≡ offsetStart → faultNumber c now h t ≡ 0
+unfolding faultNumber notAhead beyondN gap numberJudged wrongEcho checkFailed ageFault
 no-fault-1 c now h t k = rw k
 
 no-fault-2 : (c : Connection) (now : Count) (h : Header) (t : Tail) → h .kind ≡ offsetAnsw1 → h .«last_peer_stamp» .0 ≡ c .«wait_start» .0
-    → faultOf c now h t ≡ 0
-unfolding faultOf notAhead beyondN gap numberJudged wrongEcho checkFailed ageNumber
+    → faultNumber c now h t ≡ 0
+unfolding faultNumber notAhead beyondN gap numberJudged wrongEcho checkFailed ageFault
 no-fault-2 c now h t k e = rw (k, eq-eqb (h .«last_peer_stamp» .0) (c .«wait_start» .0) e)
 
 -- ---- what the table of messages allows
@@ -393,7 +405,7 @@ module _ (b : Boxes) (j : Joined b) where
       receives (waits b) (waitsForStart b) (b .r1) (sentBy (begins b)) (b .out .answ1) (sendsAnsw1 b) (ap slotAfter waits-is)
       (judged (waitsForStart b) (b .r1) (sentBy (begins b)) (length (b .out .answ1)) (start b) (periodTail (b .initiator .period))
       (record { settings = j .responder .in-range; not-closed = refl; phase = refl; errors = refl }) (j .room-for-answ1) start-reads refl
-      0 (no-fault-1 (waitsForStart b) (b .r1) (start b) (periodTail (b .initiator .period)) refl)
+      0 (no-fault-1 (waitsForStart b) (b .r1) (start b) (periodTail (b .initiator .period)) refl) refl
       (j .responder-first) refl)
 
   -- ---- OffsetAnsw1 arrives
@@ -422,7 +434,7 @@ module _ (b : Boxes) (j : Joined b) where
       receives (begins b) (sentStart b) (b .i2) (sentBy (getsStart b)) (b .out .answ2) (sendsAnsw2 b) (ap slotAfter begins-is)
       (judged-in-time (sentStart b) (b .i2) (sentBy (getsStart b)) (length (b .out .answ2)) (answ1 b) (periodTail (b .responder .period))
       (record { settings = j .initiator .in-range; not-closed = refl; phase = refl; errors = refl }) (j .room-for-answ2) answ1-reads refl
-      0 (no-fault-2 (sentStart b) (b .i2) (answ1 b) (periodTail (b .responder .period)) refl refl)
+      0 (no-fault-2 (sentStart b) (b .i2) (answ1 b) (periodTail (b .responder .period)) refl refl) refl
       refl (j .in-time-for-answ1))
 
   -- ---- OffsetAnsw2 arrives
@@ -452,7 +464,7 @@ module _ (b : Boxes) (j : Joined b) where
       (record { settings = j .responder .in-range; not-closed = refl; phase = refl; errors = refl }) (j .room-for-est) answ2-reads refl
       0
       (check-decides (sentAnsw1 b) (b .r3) (answ2 b) emptyTail (omega arith) (omega arith) (distance-next (b .initiator .first))
-      (j .responder .in-range) refl false refl)
+      (j .responder .in-range) refl false refl) refl
       refl (j .in-time-for-answ2))
 
   up-to-est : UpToEst b
@@ -510,16 +522,16 @@ module _ (b : Boxes) (j : Joined b) where
       (or-none (not (leb (sizeOfMinPlusPeersMax b) (b .initiator .settings .«t_off»))))
 
   est-judged : (k : Bool) → not (leb (sizeOfMinPlusPeersMax b) (b .initiator .settings .«t_off»)) ≡ k
-      → getsEst b ≡ leftBy (followsOf (sentAnsw2 b) (b .i4) (est b) (estTail b) (when k answer 209 else 0)) (sentBy (getsAnsw2 b)) (b .out .end)
+      → getsEst b ≡ leftBy (reporting noAge (followsOf (sentAnsw2 b) (b .i4) (est b) (estTail b) (when k answer 209 else 0))) (sentBy (getsAnsw2 b)) (b .out .end)
   unfolding getsEst expectationOf _outside_to_
   est-judged k e =
       receives (getsAnsw1 b) (sentAnsw2 b) (b .i4) (sentBy (getsAnsw2 b)) (b .out .end)
-      (followsOf (sentAnsw2 b) (b .i4) (est b) (estTail b) (when k answer 209 else 0)) (ap slotAfter gets-answ1-is)
+      (reporting noAge (followsOf (sentAnsw2 b) (b .i4) (est b) (estTail b) (when k answer 209 else 0))) (ap slotAfter gets-answ1-is)
       (judged-in-time (sentAnsw2 b) (b .i4) (sentBy (getsAnsw2 b)) (length (b .out .end)) (est b) (estTail b)
       (record { settings = j .initiator .in-range; not-closed = refl; phase = refl; errors = refl }) (j .room-for-end) est-reads refl
       (when k answer 209 else 0)
       (check-decides (sentAnsw2 b) (b .i4) (est b) (estTail b) (omega arith) (omega arith) (distance-next (b .responder .first))
-      (j .initiator .in-range) refl k (t-off-decides ∙ e))
+      (j .initiator .in-range) refl k (t-off-decides ∙ e)) refl
       refl (j .in-time-for-est))
 
   -- ---- OffsetEnd arrives
@@ -544,16 +556,16 @@ module _ (b : Boxes) (j : Joined b) where
         (end-allowed (sentAnsw2 b) (b .i4) (est b) check (sentBy (getsAnsw2 b)) l)
 
     end-judged : getsEnd b
-        ≡ leftBy (followsOf (sentEst b) (b .r5) (end b) (checkTail check) (when eqb check 0 answer 209 else 0)) (sentBy (getsEst b)) (b .out .last)
+        ≡ leftBy (reporting noAge (followsOf (sentEst b) (b .r5) (end b) (checkTail check) (when eqb check 0 answer 209 else 0))) (sentBy (getsEst b)) (b .out .last)
     unfolding getsEnd expectationOf checkFailed _outside_to_
     end-judged =
         receives (getsAnsw2 b) (sentEst b) (b .r5) (sentBy (getsEst b)) (b .out .last)
-        (followsOf (sentEst b) (b .r5) (end b) (checkTail check) (when eqb check 0 answer 209 else 0)) (ap slotAfter gets-answ2-is)
+        (reporting noAge (followsOf (sentEst b) (b .r5) (end b) (checkTail check) (when eqb check 0 answer 209 else 0))) (ap slotAfter gets-answ2-is)
         (judged-in-time (sentEst b) (b .r5) (sentBy (getsEst b)) (length (b .out .last)) (end b) (checkTail check)
         (record { settings = j .responder .in-range; not-closed = refl; phase = refl; errors = refl }) (j .room-at-last) end-reads refl
         (when eqb check 0 answer 209 else 0)
         (check-decides (sentEst b) (b .r5) (end b) (checkTail check) (omega arith) (omega arith)
-        (distance-next (nextOf (b .initiator .first))) (j .responder .in-range) refl (eqb check 0) refl)
+        (distance-next (nextOf (b .initiator .first))) (j .responder .in-range) refl (eqb check 0) refl) refl
         refl (j .in-time-for-end))
 
   -- ---- offsets within T_off
@@ -585,7 +597,7 @@ module _ (b : Boxes) (j : Joined b) where
 
   module _ (w : b .initiator .settings .«t_off» < sizeOfMinPlusPeersMax b) where
     est-refused : getsEst b ≡ leftBy (refusing (sentAnsw2 b) (b .i4) (est b)) (sentBy (getsAnsw2 b)) (b .out .end)
-    unfolding followsOf
+    unfolding followsOf refusing
     est-refused = est-judged true (ap not (lt-leb (sizeOfMinPlusPeersMax b) (b .initiator .settings .«t_off») w))
 
     end-refused : getsEnd b ≡ leftBy (released 209 0) (sentBy (getsEst b)) (b .out .last)

@@ -4,7 +4,8 @@ use mathlib.Core.Bool.{Bool, true, false, _&&_}
 use lib.Dec.{leb, eqb}
 use lib.IntN.{pos, _-ℤ_}
 use Rattle.rules.specs.Rows.{when_answer_else_}
-use Rattle.clock.specs.Clock.{centred}
+use Rattle.clock.specs.Clock.{centred, noAge}
+use Rattle.clock.specs.declared.Age.{Age}
 use Rattle.clock.specs.declared.Count.{Count}
 use Rattle.clock.specs.declared.Offset.{Offset}
 use Rattle.message.specs.Table.{offsetStart, offsetAnsw1, offsetAnsw2, offsetEst, offsetEnd}
@@ -29,6 +30,7 @@ use Rattle.connection.specs.Connection.{
 }
 use Rattle.peer_faults.specs.declared.Expectation.{Expectation}
 use Rattle.peer_faults.specs.declared.Expectation.the-variants.{Expected, Unexpected, Released}
+use Rattle.peer_faults.specs.declared.Fault.{Fault}
 use Rattle.peer_faults.specs.Faults.{expectationOf, faultOf}
 use Rattle.what_follows.specs.declared.Reply.{Reply}
 use Rattle.what_follows.specs.declared.Reply.the-variants.{Nothing, Send}
@@ -36,9 +38,15 @@ use Rattle.what_follows.specs.declared.Outcome.{Outcome}
 
 -- ---- what a call can come to
 
--- every outcome is made here, of its parts in their order
+-- every outcome is made here, of its parts in their order; AGE-8: none reports an age but by `reporting`
 abbrev pub comesTo : ℕ → Bool → ℕ → Reply → Connection → Outcome
-comesTo k released delivered reply next = record { number = k; released = released; delivered = delivered; reply = reply; next = next }
+comesTo k released delivered reply next =
+    record { number = k; released = released; delivered = delivered; age = noAge; reply = reply; next = next }
+
+-- AGE-7: the same outcome, with an age that is reported
+abbrev pub reporting : Age → Outcome → Outcome
+reporting age o =
+    record { number = o .number; released = o .released; delivered = o .delivered; age = age; reply = o .reply; next = o .next }
 
 -- the connection goes on, with so many bytes delivered
 abbrev pub kept : ℕ → ℕ → Connection → Outcome
@@ -151,9 +159,13 @@ followsOf c now h t fault =
 
 -- ---- the step
 
+-- AGE-7: what follows a fault's number, with the fault's age
+abbrev pub judgedBy : Connection → Count → Header → Tail → Fault → Outcome
+judgedBy c now h t fault = reporting (fault .age) (followsOf c now h t (fault .number))
+
 -- PEER-211: kept when open (PEER-OPEN), released in set-up (SETUP-ERR). FORM-10, of `Expectation`.
 abbrev pub metOf : Connection → Count → Header → Tail → Expectation → Outcome
-metOf c now h t Expected = followsOf c now h t (faultOf c now h t)
+metOf c now h t Expected = judgedBy c now h t (faultOf c now h t)
 metOf c now h t Unexpected = kept 211 0 (clocked c now)
 metOf c now h t Released = released 211 0
 

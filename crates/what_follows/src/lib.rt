@@ -2,6 +2,7 @@
 ghost use mathlib.Core.Path.{_≡_};
 ghost use Rattle.what_follows.specs.Follows.{
   comesTo,
+  reporting,
   kept,
   released,
   sending,
@@ -21,9 +22,11 @@ ghost use Rattle.what_follows.specs.Follows.{
   raised,
   openFollowsOf,
   followsOf,
+  judgedBy,
   metOf,
   stepOf,
 };
+use clock::Age;
 use clock::Count;
 use clock::Offset;
 use connection::Connection;
@@ -40,6 +43,7 @@ use message::OFFSET_START;
 use message::Parsed;
 use message::Tail;
 use peer_faults::Expectation;
+use peer_faults::Fault;
 
 // What is sent back.
 pub enum Reply {
@@ -54,6 +58,8 @@ pub struct Outcome {
     pub released: bool,
     // How many bytes of application data are delivered.
     pub delivered: usize,
+    // AGE-7, AGE-8: the age by which a message was judged, 0 where none is reported.
+    pub age: Age,
     pub reply: Reply,
     pub next: Connection,
 }
@@ -72,9 +78,19 @@ fn comes_to(
         number,
         released,
         delivered,
+        age: Age::none(),
         reply,
         next,
     }
+}
+
+// AGE-7: the same outcome, with an age that is reported.
+fn reporting(age: Age, o: Outcome) -> Outcome
+    ensures { λ r. ⌜ r ≡ reporting age o ⌝ }
+{
+    let mut told = o;
+    told.age = age;
+    told
 }
 
 // The connection goes on.
@@ -280,11 +296,19 @@ fn follows_of(c: Connection, now: Count, h: Header, t: Tail, fault: u16) -> Outc
     released(fault, 0)
 }
 
+// AGE-7: what follows a fault's number, with the fault's age.
+fn judged_by(c: Connection, now: Count, h: Header, t: Tail, fault: Fault) -> Outcome
+    ensures { λ r. ⌜ r ≡ judgedBy c now h t fault ⌝ }
+{
+    let age = fault.age;
+    reporting(age, follows_of(c, now, h, t, fault.number))
+}
+
 fn met_of(c: Connection, now: Count, h: Header, t: Tail, expectation: Expectation) -> Outcome
     ensures { λ r. ⌜ r ≡ metOf c now h t «expectation» ⌝ }
 {
     match expectation {
-        Expectation::Expected => follows_of(c, now, h, t, peer_faults::fault_of(c, now, h, t)),
+        Expectation::Expected => judged_by(c, now, h, t, peer_faults::fault_of(c, now, h, t)),
         Expectation::Unexpected => kept(211, 0, c.clocked(now)),
         Expectation::Released => released(211, 0),
     }

@@ -12,7 +12,7 @@ use Rattle.field.specs.Field.{fieldOf}
 use Rattle.message.specs.Table.{offsetEst, tableOf, lists}
 use Rattle.message.specs.Read.{laterStamp, checkOver, wholeOf, parsedOf}
 use Rattle.connection.specs.Connection.{_outside_to_, outOfRange, unsound}
-use Rattle.peer_faults.specs.Faults.{expectationOf, numberJudged, notAhead, beyondN, gap, wrongEcho, accepts, checkFailed, ageNumber, faultOf}
+use Rattle.peer_faults.specs.Faults.{expectationOf, numberJudged, notAhead, beyondN, gap, wrongEcho, accepts, checkFailed, ageFault, faultNumber, reportsAge, ageWith}
 use Rattle.what_follows.specs.Follows.{answ1Taken, estTaken, dataTaken, messageTaken, raised, openFollowsOf, followsOf, stepOf}
 use Rattle.calls.specs.declared.Call.{Call}
 use Rattle.calls.specs.Calls.{bad, closeRefusal, tickRefusal, receiveRefusal, beginRefusal, timed, expired, receiveOutcome, tickOutcome, beginOutcome, deliveredOf}
@@ -27,7 +27,7 @@ use Rattle.worked_histories.proofs.Histories.{type-4-on}
 use Rattle.worked_histories.proofs.CallsMissed.{no-drift}
 
 pub table-meets : TableMeets
-unfolding modulo wrapped centred goesBack waitOf ageOf verdictOf offsetRead distanceOf nextOf fieldOf tableOf lists laterStamp checkOver wholeOf parsedOf _outside_to_ outOfRange unsound expectationOf numberJudged notAhead beyondN gap wrongEcho accepts checkFailed ageNumber faultOf answ1Taken estTaken dataTaken messageTaken raised openFollowsOf followsOf stepOf bad closeRefusal tickRefusal receiveRefusal beginRefusal timed expired receiveOutcome tickOutcome beginOutcome deliveredOf badSlot madeAt
+unfolding modulo wrapped centred goesBack waitOf ageOf verdictOf offsetRead distanceOf nextOf fieldOf tableOf lists laterStamp checkOver wholeOf parsedOf _outside_to_ outOfRange unsound expectationOf numberJudged notAhead beyondN gap wrongEcho accepts checkFailed ageFault faultNumber reportsAge ageWith answ1Taken estTaken dataTaken messageTaken raised openFollowsOf followsOf stepOf bad closeRefusal tickRefusal receiveRefusal beginRefusal timed expired receiveOutcome tickOutcome beginOutcome deliveredOf badSlot madeAt
 table-meets =
     record {
       runs = responders-run;

@@ -15,11 +15,11 @@ use Rattle.message.specs.Layout.{dataTail}
 use Rattle.message.specs.Table.{offsetEst, tableOf, lists}
 use Rattle.message.specs.Read.{laterStamp, checkOver, wholeOf, parsedOf}
 use Rattle.connection.specs.Connection.{_outside_to_, outOfRange, unsound, allZero}
-use Rattle.peer_faults.specs.Faults.{expectationOf, numberJudged, notAhead, beyondN, gap, wrongEcho, accepts, checkFailed, ageNumber, faultOf}
+use Rattle.peer_faults.specs.Faults.{expectationOf, numberJudged, notAhead, beyondN, gap, wrongEcho, accepts, checkFailed, ageFault, faultNumber, reportsAge, ageWith}
 use Rattle.what_follows.specs.Follows.{answ1Taken, estTaken, dataTaken, messageTaken, raised, openFollowsOf, followsOf, stepOf}
 use Rattle.connection.specs.declared.Connection.{Connection}
 use Rattle.calls.specs.Calls.{startHeader, bad, closeRefusal, tickRefusal, receiveRefusal, beginRefusal, timed, expired, receiveOutcome, beginOutcome, initiator}
-use Rattle.promises.specs.Promises.{deliversTo}
+use Rattle.promises.specs.Promises.{deliversTo, tellsAge}
 use Rattle.true_age.specs.Clocks.{InBand, countOf}
 use Rattle.true_age.specs.History.{Ours, JudgedBytes, newest, earlier, begun}
 use Rattle.worked_histories.specs.Worlds.{StaysInBand, DoesNotRunBack, arrivals, worldOf, initiators, responders}
@@ -87,7 +87,7 @@ offsetMin c = c .offsets .min .0
 -- ---- each premise missed
 
 pub another-record : AnotherRecord
-unfolding modulo wrapped centred goesBack waitOf ageOf verdictOf offsetRead distanceOf nextOf fieldOf tableOf lists laterStamp checkOver wholeOf parsedOf _outside_to_ outOfRange unsound expectationOf numberJudged notAhead beyondN gap wrongEcho accepts checkFailed ageNumber faultOf answ1Taken estTaken dataTaken messageTaken raised openFollowsOf followsOf stepOf bad closeRefusal tickRefusal receiveRefusal beginRefusal timed expired receiveOutcome beginOutcome deliversTo
+unfolding modulo wrapped centred goesBack waitOf ageOf verdictOf offsetRead distanceOf nextOf fieldOf tableOf lists laterStamp checkOver wholeOf parsedOf _outside_to_ outOfRange unsound expectationOf numberJudged notAhead beyondN gap wrongEcho accepts checkFailed ageFault faultNumber reportsAge ageWith answ1Taken estTaken dataTaken messageTaken raised openFollowsOf followsOf stepOf bad closeRefusal tickRefusal receiveRefusal beginRefusal timed expired receiveOutcome beginOutcome deliversTo tellsAge
 another-record =
     record {
       runs = responders-run;
@@ -100,7 +100,7 @@ another-record =
     }
 
 pub begun-after : BegunAfter
-unfolding modulo wrapped centred goesBack waitOf ageOf verdictOf offsetRead distanceOf nextOf fieldOf tableOf lists laterStamp checkOver wholeOf parsedOf _outside_to_ outOfRange unsound expectationOf numberJudged notAhead beyondN gap wrongEcho accepts checkFailed ageNumber faultOf answ1Taken estTaken dataTaken messageTaken raised openFollowsOf followsOf stepOf bad closeRefusal tickRefusal receiveRefusal beginRefusal timed expired receiveOutcome beginOutcome deliversTo
+unfolding modulo wrapped centred goesBack waitOf ageOf verdictOf offsetRead distanceOf nextOf fieldOf tableOf lists laterStamp checkOver wholeOf parsedOf _outside_to_ outOfRange unsound expectationOf numberJudged notAhead beyondN gap wrongEcho accepts checkFailed ageFault faultNumber reportsAge ageWith answ1Taken estTaken dataTaken messageTaken raised openFollowsOf followsOf stepOf bad closeRefusal tickRefusal receiveRefusal beginRefusal timed expired receiveOutcome beginOutcome deliversTo tellsAge
 begun-after =
     record {
       runs = quick-runs;
@@ -115,7 +115,7 @@ begun-after =
     }
 
 pub taken-before-sent : TakenBeforeSent
-unfolding modulo wrapped centred goesBack waitOf ageOf verdictOf offsetRead distanceOf nextOf fieldOf tableOf lists laterStamp checkOver wholeOf parsedOf _outside_to_ outOfRange unsound expectationOf numberJudged notAhead beyondN gap wrongEcho accepts checkFailed ageNumber faultOf answ1Taken estTaken dataTaken messageTaken raised openFollowsOf followsOf stepOf bad closeRefusal tickRefusal receiveRefusal beginRefusal timed expired receiveOutcome beginOutcome deliversTo
+unfolding modulo wrapped centred goesBack waitOf ageOf verdictOf offsetRead distanceOf nextOf fieldOf tableOf lists laterStamp checkOver wholeOf parsedOf _outside_to_ outOfRange unsound expectationOf numberJudged notAhead beyondN gap wrongEcho accepts checkFailed ageFault faultNumber reportsAge ageWith answ1Taken estTaken dataTaken messageTaken raised openFollowsOf followsOf stepOf bad closeRefusal tickRefusal receiveRefusal beginRefusal timed expired receiveOutcome beginOutcome deliversTo tellsAge
 taken-before-sent =
     record {
       runs = drifting-runs;
@@ -127,7 +127,7 @@ taken-before-sent =
       onward-missed = λ h. omega arith;
       common-is = refl;
       numbers-are = refl;
-      claim-fails = λ claim. claim .bounds .least .le;
+      claim-fails = λ claim. claim .bounds refl .least .le;
     }
 
 -- ---- the set-up in a world as an OffsetAnsw1 reports it
@@ -139,7 +139,7 @@ module _ (first : ℕ) where
   pub opens-as-reported : (reports : List ℕ)
       → JudgedBytes (asReported first responders-run) 1000 (beginAsReported first responders-run .log) 1080 (parsedOf reports)
       → Reaches (asReported first responders-run) 1000 initiator settings200 (openAsReported first reports responders-run)
-  unfolding modulo wrapped centred goesBack waitOf ageOf verdictOf offsetRead distanceOf nextOf fieldOf tableOf lists laterStamp checkOver wholeOf parsedOf _outside_to_ outOfRange unsound expectationOf numberJudged notAhead beyondN gap wrongEcho accepts checkFailed ageNumber faultOf answ1Taken estTaken dataTaken messageTaken raised openFollowsOf followsOf stepOf bad closeRefusal tickRefusal receiveRefusal beginRefusal timed expired receiveOutcome beginOutcome deliversTo
+  unfolding modulo wrapped centred goesBack waitOf ageOf verdictOf offsetRead distanceOf nextOf fieldOf tableOf lists laterStamp checkOver wholeOf parsedOf _outside_to_ outOfRange unsound expectationOf numberJudged notAhead beyondN gap wrongEcho accepts checkFailed ageFault faultNumber reportsAge ageWith answ1Taken estTaken dataTaken messageTaken raised openFollowsOf followsOf stepOf bad closeRefusal tickRefusal receiveRefusal beginRefusal timed expired receiveOutcome beginOutcome deliversTo tellsAge
   opens-as-reported reports judged =
       received
       (received (begun allZero 7 50 1000 [] room (λ _. lit≤ tt) refl) 1080 (lit≤ tt) reports room (λ _ _. judged))
@@ -147,7 +147,7 @@ module _ (first : ℕ) where
       (λ _ _. record { sent = 1095; since = lit≤ tt; onward = lit≤ tt; stamped = refl; reports = type-4-on offsetEst (lit< tt) })
 
 pub report-of-another : ReportOfAnother
-unfolding modulo wrapped centred goesBack waitOf ageOf verdictOf offsetRead distanceOf nextOf fieldOf tableOf lists laterStamp checkOver wholeOf parsedOf _outside_to_ outOfRange unsound expectationOf numberJudged notAhead beyondN gap wrongEcho accepts checkFailed ageNumber faultOf answ1Taken estTaken dataTaken messageTaken raised openFollowsOf followsOf stepOf bad closeRefusal tickRefusal receiveRefusal beginRefusal timed expired receiveOutcome beginOutcome deliversTo
+unfolding modulo wrapped centred goesBack waitOf ageOf verdictOf offsetRead distanceOf nextOf fieldOf tableOf lists laterStamp checkOver wholeOf parsedOf _outside_to_ outOfRange unsound expectationOf numberJudged notAhead beyondN gap wrongEcho accepts checkFailed ageFault faultNumber reportsAge ageWith answ1Taken estTaken dataTaken messageTaken raised openFollowsOf followsOf stepOf bad closeRefusal tickRefusal receiveRefusal beginRefusal timed expired receiveOutcome beginOutcome deliversTo tellsAge
 report-of-another =
     record {
       runs = responders-run;

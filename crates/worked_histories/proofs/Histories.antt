@@ -16,7 +16,6 @@ use Rattle.message.specs.declared.Parsed.{Parsed}
 use Rattle.connection.specs.declared.Settings.{Settings}
 use Rattle.connection.specs.declared.Connection.{Connection}
 use Rattle.connection.specs.Connection.{opened}
-use Rattle.peer_faults.specs.Faults.{messageAge}
 use Rattle.calls.specs.declared.Call.{Call}
 use Rattle.calls.specs.Calls.{receiveOutcome, sendOutcome, tickOutcome}
 use Rattle.true_age.specs.Clocks.{World, countOf}
@@ -75,7 +74,7 @@ pub judges : {W : World} {began since : W .Moment} {role : ℕ} {settings : Sett
     → (tail : Tail) → parsedOf message ≡ Parsed.Whole (messageHeaderOf message) tail → offsetAnsw2 < messageHeaderOf message .kind
     → messageHeaderOf message .stamp ≡ countOf (W .peers sent)
     → (first : Ours W) → Written W 0 first (p .log)
-    → commonOf W settings (k .j) first ≡ k → numbersOf W k (p .c) sent taken (messageHeaderOf message) message ≡ n
+    → commonOf W settings (k .j) first ≡ k → numbersOf W k (p .c) sent taken message ≡ n
     → Judges W began since role settings p sent taken message k n
 judges {sent} {message} history is-open onward since-it on-it tail whole type stamped first written common numbers =
     record {
@@ -102,7 +101,7 @@ said-by-demand3 W began role settings p sent taken message k n m band bound =
     (m .header) (m .tail) (m .whole) (m .judged) .age (m .first) (m .written) bound-then)))
   where
     age : ℤ
-    age = messageAge (p .c) (countOf (W .ours taken)) (m .header)
+    age = receiveOutcome (p .c) (countOf (W .ours taken)) message room .age .0
 
     answers : ℕ
     answers = receiveOutcome (p .c) (countOf (W .ours taken)) message room .number

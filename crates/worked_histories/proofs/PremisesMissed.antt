@@ -15,10 +15,10 @@ use Rattle.message.specs.Layout.{dataTail}
 use Rattle.message.specs.Table.{offsetEst, tableOf, lists}
 use Rattle.message.specs.Read.{laterStamp, checkOver, wholeOf, parsedOf}
 use Rattle.connection.specs.Connection.{_outside_to_, outOfRange, unsound, allZero}
-use Rattle.peer_faults.specs.Faults.{expectationOf, numberJudged, notAhead, beyondN, gap, wrongEcho, accepts, checkFailed, ageNumber, faultOf}
+use Rattle.peer_faults.specs.Faults.{expectationOf, numberJudged, notAhead, beyondN, gap, wrongEcho, accepts, checkFailed, ageFault, faultNumber, reportsAge, ageWith}
 use Rattle.what_follows.specs.Follows.{answ1Taken, estTaken, dataTaken, messageTaken, raised, openFollowsOf, followsOf, stepOf}
 use Rattle.calls.specs.Calls.{startHeader, bad, closeRefusal, tickRefusal, receiveRefusal, beginRefusal, timed, expired, receiveOutcome, tickOutcome, beginOutcome, initiator}
-use Rattle.promises.specs.Promises.{deliversTo}
+use Rattle.promises.specs.Promises.{deliversTo, tellsAge}
 use Rattle.true_age.specs.Clocks.{countOf}
 use Rattle.true_age.specs.History.{Ours, newest, earlier, begun}
 use Rattle.worked_histories.specs.Worlds.{StaysInBand, DoesNotRunBack, arrivals, responders, past, standingBefore}
@@ -63,7 +63,7 @@ called-band judged =
 -- ---- each premise missed
 
 pub each-is-needed : EachIsNeeded
-unfolding modulo wrapped centred goesBack waitOf ageOf verdictOf offsetRead distanceOf nextOf fieldOf tableOf lists laterStamp checkOver wholeOf parsedOf _outside_to_ outOfRange unsound expectationOf numberJudged notAhead beyondN gap wrongEcho accepts checkFailed ageNumber faultOf answ1Taken estTaken dataTaken messageTaken raised openFollowsOf followsOf stepOf bad closeRefusal tickRefusal receiveRefusal beginRefusal timed expired receiveOutcome tickOutcome beginOutcome deliversTo
+unfolding modulo wrapped centred goesBack waitOf ageOf verdictOf offsetRead distanceOf nextOf fieldOf tableOf lists laterStamp checkOver wholeOf parsedOf _outside_to_ outOfRange unsound expectationOf numberJudged notAhead beyondN gap wrongEcho accepts checkFailed ageFault faultNumber reportsAge ageWith answ1Taken estTaken dataTaken messageTaken raised openFollowsOf followsOf stepOf bad closeRefusal tickRefusal receiveRefusal beginRefusal timed expired receiveOutcome tickOutcome beginOutcome deliversTo tellsAge
 each-is-needed =
     record {
       at-the-bound = record {
@@ -72,7 +72,7 @@ each-is-needed =
         message = judges ticks refl
             (lit≤ tt) (lit≤ tt) (lit≤ tt) (dataTail 1) refl (lit< tt) refl (ourStart slowPeers slow-runs) (earlier (earlier newest)) refl refl;
         bound-missed = refl;
-        claim-fails = λ claim. claim .bounds .least .le;
+        claim-fails = λ claim. claim .bounds refl .least .le;
       };
       past-the-bound = record {
         runs = slow-runs;

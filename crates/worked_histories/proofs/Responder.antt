@@ -13,7 +13,7 @@ use Rattle.message.specs.Layout.{dataTail}
 use Rattle.message.specs.Table.{tableOf, lists}
 use Rattle.message.specs.Read.{laterStamp, checkOver, wholeOf, parsedOf}
 use Rattle.connection.specs.Connection.{_outside_to_, outOfRange, unsound}
-use Rattle.peer_faults.specs.Faults.{expectationOf, numberJudged, notAhead, beyondN, gap, wrongEcho, checkFailed, ageNumber, faultOf}
+use Rattle.peer_faults.specs.Faults.{expectationOf, numberJudged, notAhead, beyondN, gap, wrongEcho, checkFailed, ageFault, faultNumber, reportsAge, ageWith}
 use Rattle.what_follows.specs.Follows.{startTaken, answ2Taken, endTaken, dataTaken, messageTaken, raised, openFollowsOf, followsOf, stepOf}
 use Rattle.calls.specs.Calls.{bad, closeRefusal, tickRefusal, receiveRefusal, beginRefusal, timed, expired, receiveOutcome, beginOutcome, responder}
 use Rattle.true_age.specs.History.{newest, earlier}
@@ -43,7 +43,7 @@ band judged =
     under t p h = omega arith
 
 pub responder-meets : ResponderMeets
-unfolding modulo wrapped centred goesBack waitOf ageOf verdictOf distanceOf nextOf fieldOf tableOf lists laterStamp checkOver wholeOf parsedOf _outside_to_ outOfRange unsound expectationOf numberJudged notAhead beyondN gap wrongEcho checkFailed ageNumber faultOf startTaken answ2Taken endTaken dataTaken messageTaken raised openFollowsOf followsOf stepOf bad closeRefusal tickRefusal receiveRefusal beginRefusal timed expired receiveOutcome beginOutcome
+unfolding modulo wrapped centred goesBack waitOf ageOf verdictOf distanceOf nextOf fieldOf tableOf lists laterStamp checkOver wholeOf parsedOf _outside_to_ outOfRange unsound expectationOf numberJudged notAhead beyondN gap wrongEcho checkFailed ageFault faultNumber reportsAge ageWith startTaken answ2Taken endTaken dataTaken messageTaken raised openFollowsOf followsOf stepOf bad closeRefusal tickRefusal receiveRefusal beginRefusal timed expired receiveOutcome beginOutcome
 responder-meets =
     record {
       ours-runs = responders-run;
@@ -96,7 +96,7 @@ slow-band judged =
     under t p h k = omega arith
 
 pub responder-late-reached : ResponderLateReached
-unfolding modulo wrapped centred goesBack waitOf ageOf verdictOf distanceOf nextOf fieldOf tableOf lists laterStamp checkOver wholeOf parsedOf _outside_to_ outOfRange unsound expectationOf numberJudged notAhead beyondN gap wrongEcho checkFailed ageNumber faultOf startTaken answ2Taken endTaken messageTaken raised openFollowsOf followsOf stepOf bad closeRefusal tickRefusal receiveRefusal beginRefusal timed expired receiveOutcome beginOutcome
+unfolding modulo wrapped centred goesBack waitOf ageOf verdictOf distanceOf nextOf fieldOf tableOf lists laterStamp checkOver wholeOf parsedOf _outside_to_ outOfRange unsound expectationOf numberJudged notAhead beyondN gap wrongEcho checkFailed ageFault faultNumber reportsAge ageWith startTaken answ2Taken endTaken messageTaken raised openFollowsOf followsOf stepOf bad closeRefusal tickRefusal receiveRefusal beginRefusal timed expired receiveOutcome beginOutcome
 responder-late-reached =
     record {
       ours-runs = responders-run;

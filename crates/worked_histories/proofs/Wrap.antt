@@ -13,7 +13,7 @@ use Rattle.message.specs.Layout.{dataTail}
 use Rattle.message.specs.Table.{offsetEst, tableOf, lists}
 use Rattle.message.specs.Read.{laterStamp, checkOver, wholeOf, parsedOf}
 use Rattle.connection.specs.Connection.{_outside_to_, outOfRange, unsound, allZero}
-use Rattle.peer_faults.specs.Faults.{expectationOf, numberJudged, notAhead, beyondN, gap, wrongEcho, accepts, checkFailed, ageNumber, faultOf}
+use Rattle.peer_faults.specs.Faults.{expectationOf, numberJudged, notAhead, beyondN, gap, wrongEcho, accepts, checkFailed, ageFault, faultNumber, reportsAge, ageWith}
 use Rattle.what_follows.specs.Follows.{answ1Taken, estTaken, dataTaken, messageTaken, raised, openFollowsOf, followsOf, stepOf}
 use Rattle.calls.specs.Calls.{bad, closeRefusal, tickRefusal, receiveRefusal, beginRefusal, timed, expired, receiveOutcome, beginOutcome, initiator}
 use Rattle.true_age.specs.History.{newest, earlier, begun}
@@ -39,7 +39,7 @@ band judged =
     }
 
 pub across-the-wrap : AcrossTheWrap
-unfolding modulo wrapped centred goesBack waitOf ageOf verdictOf offsetRead distanceOf nextOf fieldOf tableOf lists laterStamp checkOver wholeOf parsedOf _outside_to_ outOfRange unsound expectationOf numberJudged notAhead beyondN gap wrongEcho accepts checkFailed ageNumber faultOf answ1Taken estTaken dataTaken messageTaken raised openFollowsOf followsOf stepOf bad closeRefusal tickRefusal receiveRefusal beginRefusal timed expired receiveOutcome beginOutcome
+unfolding modulo wrapped centred goesBack waitOf ageOf verdictOf offsetRead distanceOf nextOf fieldOf tableOf lists laterStamp checkOver wholeOf parsedOf _outside_to_ outOfRange unsound expectationOf numberJudged notAhead beyondN gap wrongEcho accepts checkFailed ageFault faultNumber reportsAge ageWith answ1Taken estTaken dataTaken messageTaken raised openFollowsOf followsOf stepOf bad closeRefusal tickRefusal receiveRefusal beginRefusal timed expired receiveOutcome beginOutcome
 across-the-wrap =
     record {
       ours-runs = ours-runs;

@@ -5,6 +5,7 @@ use mathlib.Core.Path.{_≡_}
 use mathlib.Core.Bool.{false}
 use mathlib.Core.List.{List, [], _∷_}
 use lib.Dec.{lit≤}
+use lib.IntN.{pos}
 use lib.ListN.{replicate}
 use Rattle.message.specs.Table.{estSize}
 use Rattle.connection.specs.declared.Connection.{Connection}
@@ -106,5 +107,5 @@ pub record TableMeets : Type 0 where
   -- the slot's last call is the begin that was refused
   pub since : Since (world runs) 1000 1 initiator settings200 1120 (beginsSlot0 runs .table) (run7 runs) log 1115
   pub is-open : recordAt (beginsSlot0 runs .table) 1 .phase ≡ opened
-  pub answers : taken runs ≡ says 0 false 0 1
+  pub answers : taken runs ≡ says 0 false 0 1 (record { 0 = pos 50 })
   pub bytes : deliveredOf message (taken runs .delivered) ≡ 0x55 ∷ []

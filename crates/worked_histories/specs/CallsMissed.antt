@@ -21,7 +21,7 @@ use Rattle.worked_histories.specs.Histories.{
   numbersOf,
   Judges,
   Claimed,
-  truly_computed_answers_between_and_,
+  truly_tells_answers_between_and_,
 }
 use Rattle.worked_histories.specs.SetUp.{est, toInitiator, atInitiator, ourStart, initiatorAwaits2, initiatorOpen}
 use Rattle.worked_histories.specs.Initiator.{settings200, band0}
@@ -60,10 +60,10 @@ mixedMessage = toInitiator 22 0x01 0x2C
 
 -- on the record that the call before left, and on the other neighbour's:
 abbrev pub leftNumbers : Numbers
-leftNumbers = truly 250 computed pos 280 answers 205 between pos 280 and pos 280
+leftNumbers = truly 250 tells pos 280 answers 205 between pos 280 and pos 280
 
 abbrev pub mixedNumbers : Numbers
-mixedNumbers = truly 250 computed pos 180 answers 0 between pos 280 and pos 280
+mixedNumbers = truly 250 tells pos 180 answers 0 between pos 280 and pos 280
 
 -- a message truly 250 ticks old is handed up, where 170 may pass
 pub record AnotherRecord : Type 0 where
@@ -74,7 +74,7 @@ pub record AnotherRecord : Type 0 where
       mixedMessage band0 leftNumbers
   -- the receive gets the other neighbour's record
   pub record-missed : ¬ (anothersOpen runs ≡ initiatorOpen responders runs settings200 .c)
-  pub numbers-are : numbersOf (atInitiator responders runs) band0 (anothersOpen runs) 1150 1400 (messageHeaderOf mixedMessage) mixedMessage
+  pub numbers-are : numbersOf (atInitiator responders runs) band0 (anothersOpen runs) 1150 1400 mixedMessage
       ≡ mixedNumbers
   pub claim-fails : ¬ (Claimed settings200 (anothersOpen runs) band0 mixedNumbers)
 
@@ -94,7 +94,7 @@ reportedMessage = toInitiator 22 0x01 0x5E
 
 -- sent at 1200 and taken at 1370
 abbrev pub quickNumbers : Numbers
-quickNumbers = truly 170 computed pos 200 answers 0 between pos 220 and pos 220
+quickNumbers = truly 170 tells pos 200 answers 0 between pos 220 and pos 220
 
 -- a message truly 170 ticks old is handed up, where 150 may pass
 pub record BegunAfter : Type 0 where
@@ -122,7 +122,7 @@ driftedMessage = toInitiator 22 0x0C 0x4E
 
 -- sent at 3000 and taken at 2000: the true age counts as 0
 abbrev pub beforeNumbers : Numbers
-beforeNumbers = truly 0 computed negℤ (pos 1970) answers 206 between pos 30 and pos 30
+beforeNumbers = truly 0 tells negℤ (pos 1970) answers 206 between pos 30 and pos 30
 
 -- what is sent at 3000 is taken at 2000, before the clocks drift
 pub record TakenBeforeSent : Type 0 where
@@ -136,7 +136,7 @@ pub record TakenBeforeSent : Type 0 where
   pub onward-missed : ¬ (atInitiator driftingPeers runs .early 3000 2000)
   pub common-is : commonOf (atInitiator driftingPeers runs) settings200 0 (ourStart driftingPeers runs) ≡ band0
   pub numbers-are : numbersOf (atInitiator driftingPeers runs) band0 (initiatorOpen driftingPeers runs settings200 .c) 3000 2000
-      (messageHeaderOf driftedMessage) driftedMessage ≡ beforeNumbers
+      driftedMessage ≡ beforeNumbers
   pub claim-fails : ¬ (Claimed settings200 (initiatorOpen driftingPeers runs settings200 .c) band0 beforeNumbers)
 
 -- ---- a report is of a message of ours on this connection
@@ -168,11 +168,11 @@ abbrev pub earliersBand0 : Common
 earliersBand0 = record { e = 10; t-max = 200; j = 0; d = 5; oldest = pos 185 }
 
 abbrev pub earliersNumbers : Numbers
-earliersNumbers = truly 185 computed pos 200 answers 0 between pos 200 and pos 200
+earliersNumbers = truly 185 tells pos 200 answers 0 between pos 200 and pos 200
 
 -- in the true one, where d is 20
 abbrev pub onThisNumbers : Numbers
-onThisNumbers = truly 185 computed pos 200 answers 0 between pos 215 and pos 215
+onThisNumbers = truly 185 tells pos 200 answers 0 between pos 215 and pos 215
 
 -- The slot was begun, closed and begun again in one tick, so that two connections wrote the same OffsetStart: the first one's arrived at
 -- 1005, this one's at 1020. A message truly 185 ticks old is handed up, where 170 may pass.
@@ -188,5 +188,5 @@ pub record ReportOfAnother : Type 0 where
   pub of-ours-missed : ¬ (messageHeaderOf earliersAnsw1 .arrival ≡ countOf (responders (atInitiator responders runs .arrived 0)))
   pub common-is : commonOf (atInitiator responders runs) settings200 0 (ourStart responders runs) ≡ band0
   pub numbers-are : numbersOf (atInitiator responders runs) band0 (openAsReported 1005 earliersAnsw1 runs .c) 1200 1385
-      (messageHeaderOf reportedMessage) reportedMessage ≡ onThisNumbers
+      reportedMessage ≡ onThisNumbers
   pub claim-fails : ¬ (Claimed settings200 (openAsReported 1005 earliersAnsw1 runs .c) band0 onThisNumbers)

@@ -11,7 +11,6 @@ use Rattle.connection.specs.declared.Settings.{Settings}
 use Rattle.connection.specs.declared.Connection.{Connection}
 use Rattle.connection.specs.Connection.{opened, allZero}
 use Rattle.what_follows.specs.declared.Outcome.{Outcome}
-use Rattle.peer_faults.specs.Faults.{messageAge}
 use Rattle.calls.specs.declared.Call.{Call}
 use Rattle.calls.specs.Calls.{given, outcomeOf}
 use Rattle.true_age.specs.Clocks.{World, InBand, countOf}
@@ -71,7 +70,7 @@ commonOf W settings j first =
       oldest = pos (settings .«t_max») -ℤ pos (settings .e) +ℤ pos j -ℤ pos (transit W first);
     }
 
--- one message's true age, the age that receive computes, its answer, and true age + E - J + d and true age + E + J + d
+-- one message's true age, the age that receive reports, its answer, and true age + E - J + d and true age + E + J + d
 pub record Numbers : Type 0 where
   pub true-age : ℕ
   pub age : ℤ
@@ -79,18 +78,18 @@ pub record Numbers : Type 0 where
   pub least : ℤ
   pub most : ℤ
 
-infix 1 truly_computed_answers_between_and_
+infix 1 truly_tells_answers_between_and_
 -- the same, in words
-abbrev pub truly_computed_answers_between_and_ : ℕ → ℤ → ℕ → ℤ → ℤ → Numbers
-truly true-age computed age answers k between least and most =
+abbrev pub truly_tells_answers_between_and_ : ℕ → ℤ → ℕ → ℤ → ℤ → Numbers
+truly true-age tells age answers k between least and most =
     record { true-age = true-age; age = age; answers = k; least = least; most = most }
 
 -- sent at one moment, taken at another by a receive on the record c
-abbrev pub numbersOf : (W : World) → Common → Connection → (sent taken : W .Moment) → Header → List ℕ → Numbers
-numbersOf W k c sent taken h message =
+abbrev pub numbersOf : (W : World) → Common → Connection → (sent taken : W .Moment) → List ℕ → Numbers
+numbersOf W k c sent taken message =
     record {
       true-age = trueAge W sent taken;
-      age = messageAge c (countOf (W .ours taken)) h;
+      age = outcomeOf Call.Receive c (countOf (W .ours taken)) message room .age .0;
       answers = outcomeOf Call.Receive c (countOf (W .ours taken)) message room .number;
       least = pos (trueAge W sent taken) +ℤ pos (k .e) -ℤ pos (k .j) +ℤ pos (k .d);
       most = pos (trueAge W sent taken) +ℤ pos (k .e) +ℤ pos (k .j) +ℤ pos (k .d);
@@ -111,7 +110,7 @@ pub record Judges (W : World) (began since : W .Moment) (role : ℕ) (settings :
   pub first : Ours W
   pub written : Written W 0 first (p .log)
   pub common-is : commonOf W settings (k .j) first ≡ k
-  pub numbers-are : numbersOf W k (p .c) sent taken header message ≡ n
+  pub numbers-are : numbersOf W k (p .c) sent taken message ≡ n
 
 -- what demand 3 claims of such a message
 abbrev pub Claimed : Settings → Connection → Common → Numbers → Type 0

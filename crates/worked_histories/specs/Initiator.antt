@@ -7,7 +7,7 @@ use Rattle.connection.specs.declared.Settings.{Settings}
 use Rattle.calls.specs.Calls.{initiator}
 use Rattle.true_age.specs.Clocks.{World}
 use Rattle.worked_histories.specs.Worlds.{DoesNotRunBack, StaysInBand, responders, gaining, standing}
-use Rattle.worked_histories.specs.Histories.{Place, receive, send, tick, Common, Judges, truly_computed_answers_between_and_}
+use Rattle.worked_histories.specs.Histories.{Place, receive, send, tick, Common, Judges, truly_tells_answers_between_and_}
 use Rattle.worked_histories.specs.SetUp.{toInitiator, atInitiator, initiatorOpen}
 
 -- ---- the peer's clock gains 60 ticks from 2000 to 2060: the difference falls from 850 to 790
@@ -71,17 +71,17 @@ pub record InitiatorMeets : Type 0 where
   pub band : StaysInBand (world runs) 1000 60
   -- an age of T_max is delivered
   pub fresh : Judges (world runs) 1000 1000 initiator settings (afterSend runs) 1152 1172 freshMessage common
-      (truly 20 computed pos 40 answers 0 between negℤ (pos 20) and pos 100)
+      (truly 20 tells pos 40 answers 0 between negℤ (pos 20) and pos 100)
   pub gap : Judges (world runs) 1000 1000 initiator settings (afterFresh runs) 1200 1215 gapMessage common
-      (truly 15 computed pos 35 answers 204 between negℤ (pos 25) and pos 95)
+      (truly 15 tells pos 35 answers 204 between negℤ (pos 25) and pos 95)
   pub late : Judges (world runs) 1000 1000 initiator settings (afterGap runs) 1250 1271 lateMessage common
-      (truly 21 computed pos 41 answers 205 between negℤ (pos 19) and pos 101)
+      (truly 21 tells pos 41 answers 205 between negℤ (pos 19) and pos 101)
   -- true age + E + d is J - 1, and the age is its least
   pub future : Judges (world runs) 1000 1000 initiator settings (afterTick runs) 2100 2139 futureMessage common
-      (truly 39 computed negℤ (pos 1) answers 206 between negℤ (pos 1) and pos 119)
+      (truly 39 tells negℤ (pos 1) answers 206 between negℤ (pos 1) and pos 119)
   -- the oldest that can be handed up: T_max - E + J - d; no gap after those that were late or from the future (ERR-6)
   pub oldest : Judges (world runs) 1000 1000 initiator settings (afterFuture runs) 2200 2280 oldestMessage common
-      (truly 80 computed pos 40 answers 0 between pos 40 and pos 160)
+      (truly 80 tells pos 40 answers 0 between pos 40 and pos 160)
 
 -- ---- the peer's clock stands still from 1120 to 1180: the difference rises from 850 to 910
 
@@ -110,4 +110,4 @@ pub record LateReached : Type 0 where
   -- true age + E + J + d is T_max + 1, and the age is its most
   pub late : Judges (atInitiator slowPeers runs) 1000 1000 initiator settings200 (initiatorOpen slowPeers runs settings200) 1200 1311
       slowMessage band60
-      (truly 111 computed pos 201 answers 205 between pos 81 and pos 201)
+      (truly 111 tells pos 201 answers 205 between pos 81 and pos 201)

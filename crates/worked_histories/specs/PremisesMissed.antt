@@ -22,7 +22,7 @@ use Rattle.worked_histories.specs.Histories.{
   numbersOf,
   Judges,
   Claimed,
-  truly_computed_answers_between_and_,
+  truly_tells_answers_between_and_,
 }
 use Rattle.worked_histories.specs.SetUp.{answ1, est, toInitiator, atInitiator, ourStart, initiatorOpen}
 use Rattle.worked_histories.specs.Initiator.{slowPeers, settings200, band60, band0, slowMessage}
@@ -49,7 +49,7 @@ module _ (runs : DoesNotRunBack slowPeers) where
   afterTicks = tick (atInitiator slowPeers runs) afterTick 4000000000
 
 abbrev pub atNumbers : Numbers
-atNumbers = truly 2147483558 computed negℤ (pos 2147483648) answers 206 between pos 2147483528 and pos 2147483648
+atNumbers = truly 2147483558 tells negℤ (pos 2147483648) answers 206 between pos 2147483528 and pos 2147483648
 
 -- DEMAND-3: at 2^31 the age is -2^31, and the answer 206
 pub record AtTheBound : Type 0 where
@@ -62,7 +62,7 @@ pub record AtTheBound : Type 0 where
 
 -- the age has gone once around
 abbrev pub pastNumbers : Numbers
-pastNumbers = truly 4294967236 computed pos 30 answers 0 between pos 4294967206 and pos 4294967326
+pastNumbers = truly 4294967236 tells pos 30 answers 0 between pos 4294967206 and pos 4294967326
 
 -- far past it a message truly 2^32 - 60 ticks old is handed up as fresh
 pub record PastTheBound : Type 0 where
@@ -76,7 +76,7 @@ pub record PastTheBound : Type 0 where
 -- ---- the clocks drift within a band of J ticks
 
 abbrev pub driftedNumbers : Numbers
-driftedNumbers = truly 1000 computed pos 30 answers 0 between pos 970 and pos 1090
+driftedNumbers = truly 1000 tells pos 30 answers 0 between pos 970 and pos 1090
 
 -- a message truly 1,000 ticks old is handed up as fresh, where a band of J 60 lets 230 pass
 pub record OutsideTheBand : Type 0 where
@@ -101,7 +101,7 @@ earlierMessage =
 
 -- sent at 0 and taken at 1120
 abbrev pub earlierNumbers : Numbers
-earlierNumbers = truly 1120 computed pos 150 answers 0 between pos 1150 and pos 1150
+earlierNumbers = truly 1120 tells pos 150 answers 0 between pos 1150 and pos 1150
 
 -- the peer's clock stood still until the set-up began: a message truly 1,120 ticks old is handed up as fresh
 pub record SentBefore : Type 0 where
@@ -121,10 +121,10 @@ falselyStamped = toInitiator 22 0x04 0x7E
 
 -- as if sent then, and as it was sent:
 abbrev pub stampedNumbers : Numbers
-stampedNumbers = truly 30 computed pos 60 answers 0 between pos 60 and pos 60
+stampedNumbers = truly 30 tells pos 60 answers 0 between pos 60 and pos 60
 
 abbrev pub sentNumbers : Numbers
-sentNumbers = truly 910 computed pos 60 answers 0 between pos 940 and pos 940
+sentNumbers = truly 910 tells pos 60 answers 0 between pos 940 and pos 940
 
 -- a message sent at 1120, truly 910 ticks old, is handed up as fresh
 pub record FalseStamp : Type 0 where
@@ -138,7 +138,7 @@ pub record FalseStamp : Type 0 where
   pub onward : atInitiator responders runs .early 1120 2030
   pub stamp-missed : ¬ (messageHeaderOf falselyStamped .stamp ≡ countOf (responders 1120))
   pub numbers-are : numbersOf (atInitiator responders runs) band0 (initiatorOpen responders runs settings200 .c) 1120 2030
-      (messageHeaderOf falselyStamped) falselyStamped ≡ sentNumbers
+      falselyStamped ≡ sentNumbers
   pub claim-fails : ¬ (Claimed settings200 (initiatorOpen responders runs settings200 .c) band0 sentNumbers)
 
 -- ---- reported arrivals are true
@@ -157,11 +157,11 @@ abbrev pub reportedBand0 : Common
 reportedBand0 = record { e = 10; t-max = 200; j = 0; d = 0; oldest = pos 190 }
 
 abbrev pub reportedNumbers : Numbers
-reportedNumbers = truly 190 computed pos 200 answers 0 between pos 200 and pos 200
+reportedNumbers = truly 190 tells pos 200 answers 0 between pos 200 and pos 200
 
 -- in the true one, where d is 20
 abbrev pub trueNumbers : Numbers
-trueNumbers = truly 190 computed pos 200 answers 0 between pos 220 and pos 220
+trueNumbers = truly 190 tells pos 200 answers 0 between pos 220 and pos 220
 
 -- OffsetStart truly arrives at 1020, so that d is 20: a message truly 190 ticks old is handed up, where 170 may pass
 pub record FalseArrival : Type 0 where
@@ -173,7 +173,7 @@ pub record FalseArrival : Type 0 where
   pub arrival-missed : ¬ (messageHeaderOf falseAnsw1 .arrival ≡ countOf (responders (atInitiator responders runs .arrived 0)))
   pub common-is : commonOf (atInitiator responders runs) settings200 0 (ourStart responders runs) ≡ band0
   pub numbers-are : numbersOf (atInitiator responders runs) band0 (openAsReported 1000 falseAnsw1 runs .c) 1200 1390
-      (messageHeaderOf reportedMessage) reportedMessage ≡ trueNumbers
+      reportedMessage ≡ trueNumbers
   pub claim-fails : ¬ (Claimed settings200 (openAsReported 1000 falseAnsw1 runs .c) band0 trueNumbers)
 
 -- ---- each call gets our count as its now
@@ -200,10 +200,10 @@ calledMessage = toInitiator 22 0x01 0x0E
 
 -- in that world, and by our count:
 abbrev pub calledNumbers : Numbers
-calledNumbers = truly 170 computed pos 200 answers 0 between pos 150 and pos 250
+calledNumbers = truly 170 tells pos 200 answers 0 between pos 150 and pos 250
 
 abbrev pub ourNumbers : Numbers
-ourNumbers = truly 220 computed pos 200 answers 0 between pos 250 and pos 250
+ourNumbers = truly 220 tells pos 200 answers 0 between pos 250 and pos 250
 
 -- a message truly 220 ticks old is handed up, where 170 may pass
 pub record FalseNow : Type 0 where

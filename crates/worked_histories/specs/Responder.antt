@@ -7,7 +7,7 @@ use Rattle.connection.specs.declared.Settings.{Settings}
 use Rattle.calls.specs.Calls.{responder}
 use Rattle.true_age.specs.Clocks.{World}
 use Rattle.worked_histories.specs.Worlds.{DoesNotRunBack, StaysInBand, initiators, responders, gaining, standing}
-use Rattle.worked_histories.specs.Histories.{Place, receive, Common, Judges, truly_computed_answers_between_and_}
+use Rattle.worked_histories.specs.Histories.{Place, receive, Common, Judges, truly_tells_answers_between_and_}
 use Rattle.worked_histories.specs.SetUp.{toResponder, atResponder, responderOpen}
 use Rattle.worked_histories.specs.Initiator.{settings200}
 
@@ -69,17 +69,17 @@ pub record ResponderMeets : Type 0 where
   pub band : StaysInBand (world ours-runs runs) 1000 60
   -- an age of T_max is delivered
   pub fresh : Judges (world ours-runs runs) 1000 1000 responder settings (afterEnd ours-runs runs) 1200 1215 freshMessage common
-      (truly 15 computed pos 50 answers 0 between negℤ (pos 10) and pos 110)
+      (truly 15 tells pos 50 answers 0 between negℤ (pos 10) and pos 110)
   pub gap : Judges (world ours-runs runs) 1000 1000 responder settings (afterFresh ours-runs runs) 1250 1260 gapMessage common
-      (truly 10 computed pos 45 answers 204 between negℤ (pos 15) and pos 105)
+      (truly 10 tells pos 45 answers 204 between negℤ (pos 15) and pos 105)
   pub late : Judges (world ours-runs runs) 1000 1000 responder settings (afterGap ours-runs runs) 1300 1316 lateMessage common
-      (truly 16 computed pos 51 answers 205 between negℤ (pos 9) and pos 111)
+      (truly 16 tells pos 51 answers 205 between negℤ (pos 9) and pos 111)
   -- true age + E + d is J - 1
   pub future : Judges (world ours-runs runs) 1000 1000 responder settings (afterLate ours-runs runs) 2100 2124 futureMessage common
-      (truly 24 computed negℤ (pos 1) answers 206 between negℤ (pos 1) and pos 119)
+      (truly 24 tells negℤ (pos 1) answers 206 between negℤ (pos 1) and pos 119)
   -- the oldest that can be handed up: T_max - E + J - d
   pub oldest : Judges (world ours-runs runs) 1000 1000 responder settings (afterFuture ours-runs runs) 2200 2275 oldestMessage common
-      (truly 75 computed pos 50 answers 0 between pos 50 and pos 170)
+      (truly 75 tells pos 50 answers 0 between pos 50 and pos 170)
 
 -- ---- the peer's clock stands still from 1145 to 1205: the difference rises from -850 to -790
 
@@ -101,4 +101,4 @@ pub record ResponderLateReached : Type 0 where
   -- true age + E + J + d is T_max + 1, and the age is its most
   pub late : Judges (atResponder slowPeers ours-runs runs) 1000 1000 responder settings200
       (responderOpen slowPeers ours-runs runs settings200) 1300 1401 slowMessage slowBand60
-      (truly 101 computed pos 201 answers 205 between pos 81 and pos 201)
+      (truly 101 tells pos 201 answers 205 between pos 81 and pos 201)

@@ -6,7 +6,7 @@ use Rattle.calls.specs.Calls.{startHeader, initiator}
 use Rattle.true_age.specs.Clocks.{World, countOf}
 use Rattle.true_age.specs.History.{Ours}
 use Rattle.worked_histories.specs.Worlds.{DoesNotRunBack, StaysInBand, arrivals, worldOf}
-use Rattle.worked_histories.specs.Histories.{Place, begin, receive, Judges, truly_computed_answers_between_and_}
+use Rattle.worked_histories.specs.Histories.{Place, begin, receive, Judges, truly_tells_answers_between_and_}
 use Rattle.worked_histories.specs.Initiator.{settings200, band0}
 
 -- 2^32 - 50 at the begin, at moment 0: our count is 0 at 50
@@ -79,7 +79,7 @@ pub record AcrossTheWrap : Type 0 where
   pub band : StaysInBand (world ours-runs runs) 0 0
   -- stamp 4294967286, now 880: with J 0 the age is its least and its most
   pub fresh : Judges (world ours-runs runs) 0 0 initiator settings200 (afterEst ours-runs runs) 890 930 freshMessage band0
-      (truly 40 computed pos 70 answers 0 between pos 70 and pos 70)
+      (truly 40 tells pos 70 answers 0 between pos 70 and pos 70)
   -- stamp 100, now 1130
   pub late : Judges (world ours-runs runs) 0 0 initiator settings200 (afterFresh ours-runs runs) 1000 1180 lateMessage band0
-      (truly 180 computed pos 210 answers 205 between pos 210 and pos 210)
+      (truly 180 tells pos 210 answers 205 between pos 210 and pos 210)

@@ -12,7 +12,6 @@ use Rattle.connection.specs.declared.Settings.{Settings}
 use Rattle.connection.specs.declared.Offsets.{Offsets}
 use Rattle.connection.specs.declared.Connection.{Connection}
 use Rattle.connection.specs.Connection.{opened, allZero}
-use Rattle.peer_faults.specs.Faults.{messageAge}
 use Rattle.what_follows.specs.declared.Outcome.{Outcome}
 use Rattle.calls.specs.Calls.{initiator, responder, given, beginOutcome, receiveOutcome, leftBy, deliveredOf}
 
@@ -146,7 +145,7 @@ earlyGetsEst s = receiveOutcome (earlyGetsAnsw1 s .next) (count 820) earlyEst es
 abbrev pub earlyOpen : ℕ → Connection
 earlyOpen t-max = earlyGetsEst (settings t-max 10) .next
 
--- ---- what an open connection answers to an application message, what it delivers, and the age that it judges
+-- ---- what an open connection answers to an application message, what it delivers, and the age that it reports
 
 abbrev pub answerTo : Connection → ℕ → List ℕ → ℕ
 answerTo c now message = receiveOutcome c (count now) message estSize .number
@@ -155,7 +154,7 @@ abbrev pub deliveredTo : Connection → ℕ → List ℕ → List ℕ
 deliveredTo c now message = deliveredOf message (receiveOutcome c (count now) message estSize .delivered)
 
 abbrev pub ageAt : Connection → ℕ → List ℕ → ℤ
-ageAt c now message = messageAge c (count now) (messageHeaderOf message)
+ageAt c now message = receiveOutcome c (count now) message estSize .age .0
 
 abbrev pub stamp300 : List ℕ
 stamp300 = 0x00 ∷ 0x00 ∷ 0x01 ∷ 0x2C ∷ []

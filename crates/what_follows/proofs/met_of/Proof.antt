@@ -10,8 +10,8 @@ enum-told c = search needs
 fault-of-requires : tie.Need-fault-of-requires
 fault-of-requires c κs = search needs
 
-follows-of-requires : tie.Need-follows-of-requires
-follows-of-requires c κs = search needs
+judged-by-requires : tie.Need-judged-by-requires
+judged-by-requires c κs = search needs
 
 enum-told-2 : tie.Need-enum-told-2
 enum-told-2 c = search needs
@@ -29,7 +29,7 @@ released-requires : tie.Need-released-requires
 released-requires c κs = search needs
 
 returns : tie.Need-returns
-returns c = search (tests, c .follows-of .ensures, c .before .fault-of .ensures, c .before .before .enum-told .given .1)
+returns c = search (tests, c .judged-by .ensures, c .before .fault-of .ensures, c .before .before .enum-told .given .1)
 
 returns-2 : tie.Need-returns-2
 returns-2 c = search (tests, c .kept .ensures, c .before .clocked .ensures, c .before .before .enum-told2 .given .1)
@@ -43,7 +43,7 @@ met-of-spec =
     (tie.spec
     enum-told
     fault-of-requires
-    follows-of-requires
+    judged-by-requires
     enum-told-2
     clocked-requires
     kept-requires
