@@ -4,6 +4,9 @@ WRITING = ["311", "312", "313", "0"]
 CALLS = {1: "begin", 2: "receive", 3: "send", 4: "tick", 5: "close"}
 PHASES = ["closed", "initiator waits for 2", "initiator waits for 4", "responder waits for 1", "responder waits for 3", "responder waits for 5",
           "open", "out of range"]
+OPEN = PHASES.index("open")
+# The answers with which a receive reports the age, where the connection was open already (AGE-7).
+AGED = ["0", "204", "205", "206"]
 # The answers that 01 has for a call in each phase, in the order of PHASES.
 POSSIBLE = {
     "begin": ["104 108 0"] + 6 * ["101 103"] + ["101"],

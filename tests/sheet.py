@@ -1,8 +1,9 @@
 # Reads the test sheet's cases (tests/cases, described in tests/cases/README.md): what goes into the programs, in bytes, and what must come out.
 import os
 import re
+import struct
 
-from answers import CALLS, PHASES
+from answers import AGED, CALLS, OPEN, PHASES
 
 CASES = os.path.join(os.path.dirname(os.path.abspath(__file__)), "cases")
 FILES = ["links.cases", "packets.cases", "messages.cases", "calls.cases", "traces.cases", "sample.trace"]
@@ -11,12 +12,13 @@ MESSAGES = {1: "OffsetStart", 2: "OffsetAnsw1", 3: "OffsetAnsw2", 4: "OffsetEst"
 # A packet's fields before its user data.
 HEADER = 10
 MARK = "52 32"
-HEADING = "slot answer"
+HEADING = "slot answer age"
 # A connection record's fields in the order of the files of calls that `single` reads, with their widths; min and max in two's complement.
 FIELDS = [("phase", 1), ("N", 2), ("T_max", 4), ("E", 4), ("T_start", 4), ("T_off", 4), ("limit", 1), ("own number", 2), ("period", 4), ("last number", 2),
           ("peer stamp", 4), ("arrival", 4), ("wait start", 4), ("min", 4), ("max", 4), ("errors", 1), ("clock", 4)]
-# A record's bytes in such a file.
+# A record's bytes in such a file, and its fields as numbers; min and max are signed.
 RECORD = sum(width for _, width in FIELDS)
+NUMBERS = struct.Struct(">" + "".join("i" if name in ("min", "max") else {1: "B", 2: "H", 4: "I"}[width] for name, width in FIELDS))
 # Begin's bytes in a trace after the role.
 BEGIN = [("N", 2), ("T_max", 4), ("E", 4), ("T_start", 4), ("T_off", 4), ("limit", 1), ("first number", 2), ("period", 4)]
 ROLES = {"initiator": 0, "responder": 1}
@@ -255,6 +257,11 @@ def read_message(case):
 NAMES = [name for name, _ in FIELDS]
 
 
+# A record's fields by name, from its bytes.
+def fields_in(record):
+    return dict(zip(NAMES, NUMBERS.unpack(record)))
+
+
 def record_of(text, records):
     name, _, changes = text.partition(" with ")
     if name not in records:
@@ -294,6 +301,20 @@ def given_bytes(case, item, settings):
     return begin_bytes(settings) if settings else joined(lines)
 
 
+# An age in words: decimal, with a sign where it is negative.
+AGE = r"0|-?[1-9][0-9]*"
+
+
+# The age of a line `age:`, which an answer that reports one must have (AGE-7), and no other (AGE-8).
+def age_said(case, reports):
+    item, text = item_of(case, "age:", reports)
+    if item and not reports:
+        raise Wrong("this answer reports no age, and yet one is said")
+    if item and not re.fullmatch(AGE, text):
+        raise Wrong("%s: not an age" % text)
+    return text or "0"
+
+
 def read_call(case, records):
     before = record_of(item_of(case, "record:")[1], records)
     item, text = item_of(case, "call:")
@@ -318,7 +339,8 @@ def read_call(case, records):
         delivers, inline = item_of(case, "delivers:")
         delivered = joined(hex_of(delivers, inline))
         after = record_after(item_of(case, "after:")[1], before)
-    line = "%s %d %s %d %s " % (case.answer, released, hexed(written), 15 if delivered else 0, hexed(delivered))
+    age = age_said(case, kind == "receive" and before["phase"] == OPEN and case.answer in AGED)
+    line = "%s %d %s %d %s %s " % (case.answer, released, hexed(written), 15 if delivered else 0, hexed(delivered), age)
     case.wanted = [line + " ".join(str(after[name]) for name in NAMES)]
     case.triple = kind, min(before["phase"], len(PHASES) - 1), case.answer
     case.says = case.answer + ("" if what == "nothing changes" else ", " + what)
@@ -326,16 +348,18 @@ def read_call(case, records):
 
 # Traces.
 
-# One record of a trace: its bytes, and the line that is printed.
+# One record of a trace: its bytes, and the line that is printed. An age that is not said is 0.
 def trace_record(case, item):
-    found = re.fullmatch(r"(\w+)(?: slot ([0-9]+))?(?: now ([0-9]+))?(?:: (.*?))? ([-=]>) (\w+)", item.text)
+    found = re.fullmatch(r"(\w+)(?: slot ([0-9]+))?(?: now ([0-9]+))?(?:: (.*?))? ([-=]>) (\w+)(?:, age (%s))?" % AGE, item.text)
     if not found:
         raise Wrong("%s: not a record of a trace" % item.text)
-    kind, slot, now, settings, arrow, answer = found.groups()
+    kind, slot, now, settings, arrow, answer, age = found.groups()
+    if age and (kind != "receive" or answer not in AGED):
+        raise Wrong("%s: this answer reports no age, and yet one is said" % item.text)
     bytes_ = given_bytes(case, item, settings)
     if kind != "bytes":
         bytes_ = bytes_of(MARK) + bytes([KINDS[kind], int(slot)]) + big_endian(int(now), 4) + big_endian(len(bytes_), 2) + bytes_
-    return bytes_, answer if answer == "bad" else "%s %s" % (slot, answer), kind, arrow == "=>", answer
+    return bytes_, answer if answer == "bad" else "%s %s %s" % (slot, answer, age or "0"), kind, arrow == "=>", answer
 
 
 def items_after(case, histories, phases):
@@ -379,7 +403,7 @@ WORDS = {
     "links.cases": ("before:", "normal", "redundant", "cut:", "after:", "->", "=>"),
     "packets.cases": ("write:", "data:", "written:", "=>"),
     "messages.cases": ("message:", "=>"),
-    "calls.cases": ("record:", "call:", "writes:", "delivers:", "after:", "=>"),
+    "calls.cases": ("record:", "call:", "writes:", "delivers:", "age:", "after:", "=>"),
     "traces.cases": ("after:", "phase:", "output:", "bytes ") + tuple(name + " " for name in KINDS),
 }
 WORDS["sample.trace"] = WORDS["traces.cases"]

@@ -8,7 +8,7 @@ use crate::replay::{self, BEGIN, RECEIVE, SEND, TICK};
 use crate::streams::hex;
 use crate::traces::call_name;
 
-pub const HEADER: &str = "RECORD call now bytes room = answer released written delivered_at delivered RECORD, where RECORD is \
+pub const HEADER: &str = "RECORD call now bytes room = answer released written delivered_at delivered age RECORD, where RECORD is \
      phase n t_max e t_start t_off limit own_next_number period last_number peer_stamp arrival wait_start min max errors clock";
 
 /// What the out buffer holds before each call.
@@ -116,7 +116,7 @@ pub fn answer_text(answer: &Answer, out: &[u8], bytes: &[u8]) -> String {
     let delivered = &bytes[answer.delivered.clone()];
     // an empty part is written as one that starts at 0
     let delivered_at = if delivered.is_empty() { 0 } else { answer.delivered.start };
-    format!("{} {} {} {delivered_at} {}", answer.number, u8::from(answer.released), hex(written), hex(delivered))
+    format!("{} {} {} {delivered_at} {} {}", answer.number, u8::from(answer.released), hex(written), hex(delivered), answer.age)
 }
 
 /// The line of one call, and the record that it leaves.

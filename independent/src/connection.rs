@@ -69,18 +69,20 @@ pub const ALL_ZERO: Record = Record {
     clock: 0,
 };
 
-/// What a call answers: number, released or not, bytes written, and the part of the message's
-/// bytes that is delivered.
+/// What a call answers: number, released or not, bytes written, the part of the message's bytes
+/// that is delivered, and the age by which the message was judged, 0 where none was (AGE-8).
 #[derive(Clone, PartialEq, Eq, Debug)]
 pub struct Answer {
     pub number: u16,
     pub released: bool,
     pub written: usize,
     pub delivered: Range<usize>,
+    pub age: i32,
 }
 
-fn answer(number: u16, written: usize) -> Answer {
-    Answer { number, released: false, written, delivered: 0..0 }
+/// An answer that does not say released, delivers nothing and reports no age.
+pub fn answer(number: u16, written: usize) -> Answer {
+    Answer { number, released: false, written, delivered: 0..0, age: 0 }
 }
 
 fn released(number: u16, written: usize) -> (Record, Answer) {
@@ -300,13 +302,26 @@ pub fn age(now: u32, stamp: u32, e: u32, min: i32) -> i32 {
     now.wrapping_sub(stamp).wrapping_add(e).wrapping_sub(min as u32) as i32
 }
 
-/// A message of type 6 when open: 202, 203, 206, 205, 204, 0.
+/// The time check: the age, and the row 206 or 205 over it; no row is None (02, No. 10).
+fn time_check(record: &Record, now: u32, stamp: u32) -> (i32, Option<u16>) {
+    let age = age(now, stamp, record.settings.e, record.min);
+    let fault = if age < 0 {
+        Some(206)
+    } else if age as u32 > record.settings.t_max {
+        Some(205)
+    } else {
+        None
+    };
+    (age, fault)
+}
+
+/// A message of type 6 when open: 202, 203, 206, 205, 204, 0. The last four report the age (AGE-7),
+/// also where they release.
 fn when_open(record: Record, now: u32, message: &Message) -> (Record, Answer) {
     let After::Application { data } = message.after else {
         return unusable(record, 211);
     };
     let delivered = message::HEADER..message::HEADER + data.len();
-    let age = age(now, message.stamp, record.settings.e, record.min);
     match number_fault(&record, message.number) {
         Some(203) => return released(203, 0),
         Some(number) => return counted(record, answer(number, 0)),
@@ -314,16 +329,14 @@ fn when_open(record: Record, now: u32, message: &Message) -> (Record, Answer) {
     }
     // 02, No. 4: from here on d is 1 to N, so number and stamps move whatever the age.
     let heard = Record { last_number: message.number, peer_stamp: message.stamp, arrival: now, ..record };
-    if age < 0 {
-        return counted(heard, answer(206, 0));
-    }
-    if age as u32 > record.settings.t_max {
-        return counted(heard, answer(205, 0));
+    let (age, fault) = time_check(&record, now, message.stamp);
+    if let Some(number) = fault {
+        return counted(heard, Answer { age, ..answer(number, 0) });
     }
     if gap(&record, message.number) {
-        return counted(heard, Answer { delivered, ..answer(204, 0) });
+        return counted(heard, Answer { delivered, age, ..answer(204, 0) });
     }
-    (Record { errors: 0, ..heard }, Answer { delivered, ..answer(0, 0) })
+    (Record { errors: 0, ..heard }, Answer { delivered, age, ..answer(0, 0) })
 }
 
 /// 202, 204, 205 and 206 raise the counter by one; reaching the limit releases.

@@ -90,14 +90,14 @@ pub fn replay(trace: &[u8]) -> String {
     let mut out = [0_u8; OUT];
     let mut rest = trace;
     let mut count = 0;
-    let mut printed = String::from("slot answer\n");
+    let mut printed = String::from("slot answer age\n");
     while !rest.is_empty() {
         let Some((call, after)) = record_of(rest) else {
             printed.push_str("bad\n");
             break;
         };
         let answer = play(&mut records, &call, &mut out);
-        writeln!(printed, "{} {}", call.slot, answer.number).unwrap();
+        writeln!(printed, "{} {} {}", call.slot, answer.number, answer.age).unwrap();
         count += 1;
         rest = after;
     }

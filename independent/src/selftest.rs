@@ -38,6 +38,8 @@ pub fn all() -> Tests {
     worked_set_up(&mut tests);
     worked_ages(&mut tests);
     worked_numbers(&mut tests);
+    reported_ages(&mut tests);
+    no_ages(&mut tests);
     set_up_rows(&mut tests);
     waits(&mut tests);
     callers_faults(&mut tests);
@@ -46,6 +48,7 @@ pub fn all() -> Tests {
     whole_set_up(&mut tests);
     table_sizes(&mut tests);
     trace_replay(&mut tests);
+    trace_ages(&mut tests);
     everything_occurs(&mut tests);
     tests
 }
@@ -330,7 +333,7 @@ fn worked_ages(tests: &mut Tests) {
         let settings = Settings { t_max, ..SET };
         let (after, answer, _) = received(open(settings, min, 10, now), now, &msg(11, stamp, 0, 0, After::Application { data: &data }));
         let delivered = if number == 0 { 15..18 } else { 0..0 };
-        tests.equal("judged", (answer.number, answer.delivered, answer.released), (number, delivered, false));
+        tests.equal("judged", (answer.number, answer.delivered, answer.released, answer.age), (number, delivered, false, age));
         let kept = (after.last_number, after.peer_stamp, after.arrival, after.errors);
         tests.equal("remembered", kept, (11, stamp, now, u8::from(number != 0)));
     }
@@ -374,6 +377,73 @@ fn worked_numbers(tests: &mut Tests) {
     let empty = msg(11, 500, 0, 0, After::Application { data: &[] });
     let (after, answer, _) = received(Record { errors: 2, ..open(SET, 0, 10, 500) }, 500, &empty);
     tests.equal("an empty type 6", (answer.number, answer.delivered.len(), after.last_number, after.errors), (0, 0, 11, 0));
+}
+
+/// AGE-7: the age with 0, 204, 205 and 206, also where they release.
+fn reported_ages(tests: &mut Tests) {
+    // min, max, E, T_max; stamp and now; the age, and the answer at d = 1
+    for (min, max, e, t_max, stamp, now, age, number) in [
+        (830, 880, 0, 40, 300, 1130, 0, 0), (830, 880, 0, 40, 300, 1170, 40, 0),
+        (830, 880, 0, 40, 300, 1171, 41, 205), (830, 880, 0, 40, 300, 1129, -1, 206),
+        (830, 880, 7, 40, 300, 1123, 0, 0), (830, 880, 7, 40, 300, 1163, 40, 0),
+        (830, 880, 7, 40, 300, 1164, 41, 205), (830, 880, 7, 40, 300, 1122, -1, 206),
+        (-880, -840, 5, 45, 1200, 315, 0, 0), (-880, -840, 5, 45, 1200, 360, 45, 0),
+        (-880, -840, 5, 45, 1200, 361, 46, 205), (-880, -840, 5, 45, 1200, 314, -1, 206),
+        (0, 9, 0, 60_000, 0, 0x7FFF_FFFF, i32::MAX, 205), (0, 9, 0, 60_000, 0, 0x8000_0000, i32::MIN, 206),
+        (0, 9, 1, 60_000, 0, 0x7FFF_FFFF, i32::MIN, 206), (i32::MIN, 9, 0, 1, 6, 5, i32::MAX, 205),
+        (i32::MIN, 9, 0, 1, 5, 5, i32::MIN, 206), (i32::MAX, 9, 0, 1, 0, 0, -i32::MAX, 206),
+    ] {
+        let before = Record { max, ..open(Settings { e, t_max, ..SET }, min, 10, now) };
+        for (d, errors, data) in [(1, 0, &[7_u8][..]), (1, 0, &[]), (3, 0, &[7]), (1, 2, &[7]), (3, 2, &[7]), (3, 2, &[])] {
+            let answered = if number == 0 && d == 3 { 204 } else { number };
+            let message = msg(10 + d, stamp, 0, 0, After::Application { data });
+            let (_, answer, _) = received(Record { errors, ..before }, now, &message);
+            tests.equal("the age reported", (answer.number, answer.released, answer.age), (answered, answered != 0 && errors == 2, age));
+        }
+    }
+}
+
+/// AGE-8: age 0 with every other answer and call, also where the message or the record would give another one.
+fn no_ages(tests: &mut Tests) {
+    // now - stamp - min is 40 here, T_max
+    let message = |number| message::bytes_of(&msg(number, 300, 0, 0, After::Application { data: &[7] }));
+    let record = open(SET, 830, 10, 1170);
+    let (now, mut out) = (1170, [0; 1000]);
+    let mut took = |record, now, bytes: &[u8], room| {
+        let answer = connection::receive(record, now, bytes, &mut out[..room]).1;
+        (answer.number, answer.age)
+    };
+    tests.equal("with an age", took(record, now, &message(11), 25), (0, 40));
+    let (cut, other) = (message(11)[..14].to_vec(), message::bytes_of(&est(11)));
+    for (number, bytes) in [(202, message(10)), (202, message(9)), (203, message(14)), (201, cut), (211, other)] {
+        tests.equal("open, no age", took(record, now, &bytes, 25), (number, 0));
+    }
+    let (faulty, closed) = (Record { errors: 3, ..record }, Record { phase: connection::CLOSED, ..record });
+    let ahead = Record { clock: 1171, ..record };
+    for (number, record, room) in [(101, faulty, 25), (102, closed, 25), (105, ahead, 25), (108, record, 24)] {
+        tests.equal("refused, no age", took(record, now, &message(11), room), (number, 0));
+    }
+    let (waits_4, waits_5) = (initiator_waits_4(SET), responder_waits_5(SET));
+    let end = |number, valid| message::bytes_of(&msg(number, 1130, 260, 1125, After::End { valid }));
+    let offers = |number, min| message::bytes_of(&msg(number, 270, 1080, 260, After::Est { min, max: -840 }));
+    for (number, record, now, bytes) in [
+        (0, waits_4, 1120, offers(21, -880)), (204, waits_4, 1120, offers(23, -880)), (209, waits_4, 1120, offers(21, -881)),
+        (211, waits_4, 1170, message(21)), (207, waits_4, 1580, message(21)), (0, waits_5, 300, end(42, true)),
+        (204, waits_5, 300, end(44, true)), (209, waits_5, 300, end(42, false)), (202, waits_5, 300, end(41, true)),
+        (203, waits_5, 300, end(45, true)),
+    ] {
+        tests.equal("set-up, no age", took(record, now, &bytes, 25), (number, 0));
+    }
+    let told = |answer: Answer| (answer.number, answer.age);
+    tests.equal("send", told(connection::send(record, now, &message(11), &mut out).1), (0, 0));
+    tests.equal("tick", told(connection::tick(record, now).1), (0, 0));
+    tests.equal("tick at a wait's end", told(connection::tick(waits_4, 1580).1), (207, 0));
+    tests.equal("close", told(connection::close(record).1), (0, 0));
+    for role in [Role::Initiator, Role::Responder] {
+        tests.equal("begin", told(begun(role, SET, now).1), (0, 0));
+    }
+    tests.equal("no such slot", told(table::receive(&mut [record], 1, now, &message(11), &mut out)), (101, 0));
+    tests.equal("by the table", told(table::receive(&mut [record], 0, now, &message(11), &mut out)), (0, 40));
 }
 
 /// The answer, and what was written, for a message in set-up; anything but 0 must release.
@@ -426,7 +496,7 @@ fn waits(tests: &mut Tests) {
     ] {
         let (before, at) = (began.wrapping_add(499), began.wrapping_add(500));
         tests.equal("a tick before the end", connection::tick(record, before).1.number, 0);
-        tests.equal("a tick at the end", connection::tick(record, at), (ALL_ZERO, Answer { number: 207, released: true, written: 0, delivered: 0..0 }));
+        tests.equal("a tick at the end", connection::tick(record, at), (ALL_ZERO, Answer { released: true, ..connection::answer(207, 0) }));
         let mut out = [0; 25];
         tests.equal("malformed before the end", connection::receive(record, before, &[], &mut out).1.number, 201);
         tests.equal("expired and malformed", connection::receive(record, at, &[], &mut out).1.number, 207);
@@ -459,7 +529,7 @@ fn callers_faults(tests: &mut Tests) {
     tests.equal("103 before 104", connection::begin(record, None, SET, 0, 0, 5, &mut []).1.number, 103);
     tests.equal("104 before 108", connection::begin(ALL_ZERO, None, SET, 0, 0, 5, &mut []).1.number, 104);
     let leftovers = Record { phase: connection::CLOSED, errors: 200, ..record };
-    tests.equal("a closed record with leftovers is closed", connection::tick(leftovers, 0), (leftovers, Answer { number: 102, released: false, written: 0, delivered: 0..0 }));
+    tests.equal("a closed record with leftovers is closed", connection::tick(leftovers, 0), (leftovers, connection::answer(102, 0)));
     tests.equal("and can be begun", connection::begin(leftovers, Some(Role::Responder), SET, 7, 50, 100, &mut []).0, begun(Role::Responder, SET, 100).0);
     for (faulty, number) in [
         (Record { errors: 3, ..record }, 101), (Record { errors: 2, ..record }, 0), (Record { phase: 7, ..record }, 101),
@@ -469,7 +539,7 @@ fn callers_faults(tests: &mut Tests) {
         let begin = connection::begin(faulty, None, SET, 0, 0, 0, &mut []).1.number;
         tests.equal("101 before 103", begin, if number == 101 { 101 } else { 103 });
     }
-    tests.equal("close", connection::close(record), (ALL_ZERO, Answer { number: 0, released: true, written: 0, delivered: 0..0 }));
+    tests.equal("close", connection::close(record), (ALL_ZERO, Answer { released: true, ..connection::answer(0, 0) }));
     tests.equal("close when closed", connection::close(ALL_ZERO).1.number, 102);
 }
 
@@ -539,9 +609,9 @@ fn table_sizes(tests: &mut Tests) {
 fn trace_replay(tests: &mut Tests) {
     let tick = replay::bytes_of(&Call { kind: replay::TICK, slot: 0, now: 0, bytes: &[] });
     let printed = |trace: &[u8]| replay::replay(trace);
-    tests.equal("one tick on slot 0", printed(&tick), String::from("slot answer\n0 102\nend 1\n"));
-    tests.equal("an empty file", printed(&[]), String::from("slot answer\nend 0\n"));
-    let bad = String::from("slot answer\n0 102\nbad\nend 1\n");
+    tests.equal("one tick on slot 0", printed(&tick), String::from("slot answer age\n0 102 0\nend 1\n"));
+    tests.equal("an empty file", printed(&[]), String::from("slot answer age\nend 0\n"));
+    let bad = String::from("slot answer age\n0 102 0\nbad\nend 1\n");
     for length in 1..10 {
         let mut cut = tick.clone();
         cut.extend(&tick[..length]);
@@ -552,23 +622,50 @@ fn trace_replay(tests: &mut Tests) {
         spoiled[10 + at] = byte;
         tests.equal("a bad record", printed(&spoiled), bad.clone());
     }
-    for (length, answer) in [(1000_u16, "0 102\n"), (1001, "bad\n")] {
+    for (length, answer) in [(1000_u16, "0 102 0\n"), (1001, "bad\n")] {
         let mut trace = tick.clone();
         trace[8..10].copy_from_slice(&length.to_be_bytes());
         trace.resize(10 + usize::from(length), 0);
         let count = usize::from(length == 1000);
-        tests.equal("length 1,000", printed(&trace), format!("slot answer\n{answer}end {count}\n"));
+        tests.equal("length 1,000", printed(&trace), format!("slot answer age\n{answer}end {count}\n"));
     }
     let begin = crate::craft::begin_bytes(0, &SET, 1, 2);
     for (bytes, answer) in [(&begin[..], 0), (&begin[..25], 104), (&[&begin[..], &[0]].concat(), 104), (&crate::craft::begin_bytes(2, &SET, 1, 2), 104)] {
         let trace = replay::bytes_of(&Call { kind: replay::BEGIN, slot: 63, now: 9, bytes });
-        tests.equal("begin", printed(&trace), format!("slot answer\n63 {answer}\nend 1\n"));
+        tests.equal("begin", printed(&trace), format!("slot answer age\n63 {answer} 0\nend 1\n"));
         let trace = replay::bytes_of(&Call { kind: replay::BEGIN, slot: 64, now: 9, bytes });
-        tests.equal("begin on a bad slot", printed(&trace), String::from("slot answer\n64 101\nend 1\n"));
+        tests.equal("begin on a bad slot", printed(&trace), String::from("slot answer age\n64 101 0\nend 1\n"));
     }
 }
 
-// The makers of random input reach every answer.
+/// TRACE-13: the age as a third column, 0 for what is no receive. The initiator of the worked numbers, with T_max 40 and limit 3.
+fn trace_ages(tests: &mut Tests) {
+    let application = |number, stamp| message::bytes_of(&msg(number, stamp, 0, 0, After::Application { data: &[5] }));
+    let mut trace = Vec::new();
+    for (kind, now, bytes) in [
+        (replay::BEGIN, 1000, crate::craft::begin_bytes(0, &SET, 7, 50)),
+        (replay::RECEIVE, 1080, message::bytes_of(&msg(20, 200, 1000, 170, After::Answ1 { period: 5 }))),
+        (replay::RECEIVE, 1120, message::bytes_of(&est(21))),
+        (replay::RECEIVE, 1130, application(22, 300)),
+        (replay::RECEIVE, 1170, application(23, 300)),
+        (replay::RECEIVE, 1171, application(24, 300)),
+        (replay::RECEIVE, 1172, application(24, 300)),
+        (replay::RECEIVE, 1173, application(25, 320)),
+        (replay::SEND, 1174, vec![1, 2]),
+        (replay::TICK, 1175, Vec::new()),
+        (replay::RECEIVE, 1176, application(26, 347)),
+        (replay::RECEIVE, 1177, application(28, 340)),
+        (replay::RECEIVE, 1178, application(29, 5)),
+        (replay::TICK, 1179, Vec::new()),
+    ] {
+        trace.extend(replay::bytes_of(&Call { kind, slot: 5, now, bytes: &bytes }));
+    }
+    let lines = ["0 0", "0 0", "0 0", "0 0", "0 40", "205 41", "202 0", "0 23", "0 0", "0 0", "206 -1", "204 7", "205 343", "102 0"];
+    let wanted: String = lines.iter().map(|line| format!("5 {line}\n")).collect();
+    tests.equal("the ages of a trace", replay::replay(&trace), format!("slot answer age\n{wanted}end 14\n"));
+}
+
+// The makers of random input reach every answer, and each edge of the age.
 
 fn everything_occurs(tests: &mut Tests) {
     tests.equal("answers that no trace shows", traces::missing(&traces::counts_of(1, 200)), Vec::new());
@@ -580,11 +677,26 @@ fn everything_occurs(tests: &mut Tests) {
         "0", "101", "102", "103", "104", "105", "106", "107", "108", "201", "202", "203", "204", "205", "206", "207", "208", "209", "211",
     ];
     tests.equal("answers of calls", answers, BTreeSet::from(wanted.map(String::from)));
+    let ages: BTreeSet<String> = calls::calls(1, 40_000).filter_map(|(_, line)| edge_of(&line)).collect();
+    let wanted = ["0 at 0", "0 at T_max", "204 at 0", "204 at T_max", "205 at T_max + 1", "205 at most", "206 at -1", "206 at least"];
+    tests.equal("edges of the age", ages, BTreeSet::from(wanted.map(String::from)));
     for bytes in messages::messages(1, 1) {
         if let Some(parsed) = message::parse(&bytes) {
             tests.equal("accepted writes back as the same bytes", message::bytes_of(&parsed) == bytes, true);
         }
     }
+}
+
+/// The edge at which the line of a call on an open connection has its age.
+fn edge_of(line: &str) -> Option<String> {
+    let words: Vec<&str> = line.split(' ').collect();
+    let (t_max, call) = (words[2].parse::<i32>().ok()?, words[17]);
+    let (answer, age) = (words[22], words[27].parse::<i32>().ok()?);
+    if call != "receive" || words[0] != "6" || !["0", "204", "205", "206"].contains(&answer) {
+        return None;
+    }
+    let edges = [("0", 0), ("T_max", t_max), ("T_max + 1", t_max + 1), ("most", i32::MAX), ("-1", -1), ("least", i32::MIN)];
+    edges.iter().find(|(_, edge)| *edge == age).map(|(name, _)| format!("{answer} at {name}"))
 }
 
 fn first_word(text: &str) -> String {

@@ -13,7 +13,7 @@ pub fn closed() -> Vec<Record> {
 /// Calls the step on one slot's record and stores it back; 101 for a bad slot or table size.
 fn at_slot(table: &mut [Record], slot: usize, call: impl FnOnce(Record) -> (Record, Answer)) -> Answer {
     if table.is_empty() || table.len() > SLOTS || slot >= table.len() {
-        return Answer { number: 101, released: false, written: 0, delivered: 0..0 };
+        return connection::answer(101, 0);
     }
     let (record, answer) = call(table[slot]);
     table[slot] = record;

@@ -10,7 +10,7 @@ use crate::streams::hex;
 use crate::table;
 use crate::traces::call_name;
 
-pub const HEADER: &str = "owner size slot call now bytes room RECORD .. = answer released written delivered_at delivered RECORD .., \
+pub const HEADER: &str = "owner size slot call now bytes room RECORD .. = answer released written delivered_at delivered age RECORD .., \
      where RECORD is as in `calls`";
 const SIZES: [usize; 5] = [0, 1, 2, 64, 65];
 const RECORDS: usize = 65;
