@@ -24,7 +24,7 @@ use Rattle.what_follows.specs.Follows.{startTaken, answ1Taken, answ2Taken, estT
 use Rattle.calls.specs.Calls.{receiveRefusal, receiveOutcome, deliveredOf}
 use Rattle.promises.specs.Promises.{deliversTo}
 use Rattle.calls.proofs.Replies.{both}
-use Rattle.promises.proofs.Promises.{Fault, receive-by, receive-refusal-by}
+use Rattle.promises.proofs.Promises.{IsFault, receive-by, receive-refusal-by}
 use Rattle.promises.proofs.Opening.{Expects, expected-is}
 
 module _ (c : Connection) (now : Count) (message : List ℕ) where
@@ -84,14 +84,14 @@ module _ (c : Connection) (now : Count) (message : List ℕ) where
   taken h t w (Expects.x5 p k) = rw k (nothing 0 (in-set-up 0 (rw p refl)))
   taken h t w (Expects.x6 p k) = rw k (all h t w k 0 (open-0 (rw p refl)))
 
-  fault-nothing : {k : ℕ} → Fault k → eqb k 0 ≡ false
-  fault-nothing Fault.f202 = refl
-  fault-nothing Fault.f203 = refl
-  fault-nothing Fault.f208 = refl
-  fault-nothing Fault.f209 = refl
-  fault-nothing Fault.f206 = refl
-  fault-nothing Fault.f205 = refl
-  fault-nothing Fault.f204 = refl
+  fault-nothing : {k : ℕ} → IsFault k → eqb k 0 ≡ false
+  fault-nothing IsFault.f202 = refl
+  fault-nothing IsFault.f203 = refl
+  fault-nothing IsFault.f208 = refl
+  fault-nothing IsFault.f209 = refl
+  fault-nothing IsFault.f206 = refl
+  fault-nothing IsFault.f205 = refl
+  fault-nothing IsFault.f204 = refl
 
   pub delivers-bytes-from-15 : (room : ℕ)
       → deliveredOf message (receiveOutcome c now message room .delivered)

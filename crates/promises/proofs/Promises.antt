@@ -100,14 +100,14 @@ module _ (Q : ℕ → Type 0) (z : Q 0) (a : Q 101) where
 -- ---- every outcome of a receive or a tick, once: a promise is shown by its leaves
 
 -- the faults of a message that is expected
-pub data Fault : ℕ → Type 0 where
-  f202 : Fault 202
-  f203 : Fault 203
-  f208 : Fault 208
-  f209 : Fault 209
-  f206 : Fault 206
-  f205 : Fault 205
-  f204 : Fault 204
+pub data IsFault : ℕ → Type 0 where
+  f202 : IsFault 202
+  f203 : IsFault 203
+  f208 : IsFault 208
+  f209 : IsFault 209
+  f206 : IsFault 206
+  f205 : IsFault 205
+  f204 : IsFault 204
 
 -- a promise that does not look at the age that is reported
 abbrev pub Ageless : (Outcome → Type 0) → Type 0
@@ -120,12 +120,12 @@ pub record Ways (P : Outcome → Type 0) (c : Connection) (now : Count) (p : Par
   pub unexpected-set-up : eqb (c .phase) opened ≡ false → P (released 211 0)
   pub taken : (h : Header) (t : Tail) → p ≡ Parsed.Whole h t → expectationOf (c .phase) (h .kind) ≡ Expected → faultNumber c now h t ≡ 0 → P (messageTaken c now h t)
   pub refusing : (h : Header) → eqb (c .phase) opened ≡ false → P (refusing c now h)
-  pub in-set-up : (k : ℕ) → Fault k → eqb (c .phase) opened ≡ false → P (released k 0)
+  pub in-set-up : (k : ℕ) → IsFault k → eqb (c .phase) opened ≡ false → P (released k 0)
   pub dropped : eqb (c .phase) opened ≡ true → P (raised (clocked c now) 202 0)
   pub too-far : eqb (c .phase) opened ≡ true → P (released 203 0)
   pub after-gap : (h : Header) (t : Tail) → p ≡ Parsed.Whole h t → expectationOf (c .phase) (h .kind) ≡ Expected → eqb (c .phase) opened ≡ true
       → P (raised (heard (clocked c now) h now) 204 (t .«data»))
-  pub raising : (h : Header) (t : Tail) → p ≡ Parsed.Whole h t → (k : ℕ) → Fault k → eqb k 203 ≡ false → eqb k 204 ≡ false → eqb (c .phase) opened ≡ true
+  pub raising : (h : Header) (t : Tail) → p ≡ Parsed.Whole h t → (k : ℕ) → IsFault k → eqb k 203 ≡ false → eqb k 204 ≡ false → eqb (c .phase) opened ≡ true
       → P (raised (heard (clocked c now) h now) k 0)
 
 -- an unexpected type: open, or in set-up
@@ -153,14 +153,14 @@ unexpected-released phase type =
 
 module _ (P : Outcome → Type 0) (ageless : Ageless P) (c : Connection) (now : Count) (p : Parsed) (l : Ways P c now p) where
   module _ (h : Header) (t : Tail) (w : p ≡ Parsed.Whole h t) (x : expectationOf (c .phase) (h .kind) ≡ Expected) where
-    open-leaf : (k : ℕ) → Fault k → eqb (c .phase) opened ≡ true → P (openFollowsOf c now h t k)
+    open-leaf : (k : ℕ) → IsFault k → eqb (c .phase) opened ≡ true → P (openFollowsOf c now h t k)
     unfolding openFollowsOf
     open-leaf k f o =
         both P (eqb k 202) _ _ (λ _. l .dropped o) (λ _.
         both P (eqb k 203) _ _ (λ _. l .too-far o) (λ e.
         both P (eqb k 204) _ _ (λ _. l .after-gap h t w x o) (λ d. l .raising h t w k f e d o)))
 
-    fault-leaf : (k : ℕ) → eqb k 0 ≡ false → Fault k → P (followsOf c now h t k)
+    fault-leaf : (k : ℕ) → eqb k 0 ≡ false → IsFault k → P (followsOf c now h t k)
     unfolding followsOf
     fault-leaf k z f =
         rw z
@@ -235,7 +235,7 @@ taken-in c now h t =
     both (In (ruleOf Call.Receive .numbers)) (eqb (h .kind) offsetEst) _ _ (λ _. refl) (λ _.
     both (In (ruleOf Call.Receive .numbers)) (eqb (h .kind) offsetEnd) _ _ (λ _. refl) (λ _. refl)))))
 
-fault-in : {k : ℕ} → Fault k → k among ruleOf Call.Receive .numbers ≡ true
+fault-in : {k : ℕ} → IsFault k → k among ruleOf Call.Receive .numbers ≡ true
 fault-in f202 = refl
 fault-in f203 = refl
 fault-in f208 = refl
@@ -317,7 +317,7 @@ taken-fair c now h t =
     both (Fair c) (eqb (h .kind) offsetEst) _ _ (λ _. other 0 refl) (λ _.
     both (Fair c) (eqb (h .kind) offsetEnd) _ _ (λ _. other 0 refl) (λ _. other 0 refl)))))
 
-fault-fair : {k : ℕ} → Fault k → callersFault k ≡ false
+fault-fair : {k : ℕ} → IsFault k → callersFault k ≡ false
 fault-fair f202 = refl
 fault-fair f203 = refl
 fault-fair f208 = refl
@@ -412,7 +412,7 @@ taken-rel c now h t =
     both (Rel c) (eqb (h .kind) offsetEst) _ _ (λ _. refl) (λ _.
     both (Rel c) (eqb (h .kind) offsetEnd) _ _ (λ _. refl) (λ _. refl)))))
 
-set-up-rel : (c : Connection) {k : ℕ} → Fault k → eqb (c .phase) opened ≡ false → true ≡ releasedBy c k
+set-up-rel : (c : Connection) {k : ℕ} → IsFault k → eqb (c .phase) opened ≡ false → true ≡ releasedBy c k
 unfolding releasedBy
 set-up-rel c f202 s = simp s
 set-up-rel c f203 s = simp s
@@ -422,7 +422,7 @@ set-up-rel c f206 s = simp s
 set-up-rel c f205 s = simp s
 set-up-rel c f204 s = simp s
 
-open-rel : (c : Connection) {k : ℕ} → Fault k → eqb k 203 ≡ false → eqb (c .phase) opened ≡ true → releasedBy c k ≡ leb (c .settings .limit) (c .errors + 1)
+open-rel : (c : Connection) {k : ℕ} → IsFault k → eqb k 203 ≡ false → eqb (c .phase) opened ≡ true → releasedBy c k ≡ leb (c .settings .limit) (c .errors + 1)
 unfolding releasedBy
 open-rel c f202 n o = simp o
 open-rel c f203 n o = absurd (subst T n tt)

@@ -86,7 +86,7 @@ rememberedBy c now h =
     when oneToN c (distanceOf (h .number) (c .peer .number)) answer heardOf h now else
     c .peer
 
--- AGE-7: an age is reported with a 0, 204, 205 or 206 of a connection that was open before the call
+-- AGE-7: whether an age goes with the answer k to a receive on this record: it was open, and the answer is one of the four
 unfoldable pub tellsAge : Connection → ℕ → Bool
 tellsAge c k = eqb (c .phase) opened && reportsAge k
 

@@ -1,4 +1,4 @@
-// Text in an out buffer: numbers, offsets, ages and bytes, one word after the other; room for it, and writing it; the choice between two words.
+// Text in an out buffer: numbers, offsets, ages and bytes, one word after the other; room for it, and writing it; the choice of a word.
 ghost use mathlib.Core.Path.{_≡_};
 ghost use Prim.Native.Nat.{_+_, _*_, _≤_, _<_};
 ghost use lib.ListN.{length, take, drop};

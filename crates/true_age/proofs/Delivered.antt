@@ -21,7 +21,7 @@ use Rattle.what_follows.specs.Follows.{startTaken, answ1Taken, answ2Taken, estT
 use Rattle.calls.specs.Calls.{receiveRefusal, receiveOutcome}
 use Rattle.promises.specs.Promises.{deliversTo}
 use Rattle.calls.proofs.Replies.{both}
-use Rattle.promises.proofs.Promises.{Fault, receive-by, receive-refusal-by}
+use Rattle.promises.proofs.Promises.{IsFault, receive-by, receive-refusal-by}
 use Rattle.promises.proofs.Opening.{Expects, expected-is}
 use Rattle.promises.proofs.Delivery.{is-data, delivers-bytes-from-15}
 use Rattle.true_age.specs.Claim.{HandsUp}
@@ -66,14 +66,14 @@ module _ (c : Connection) (now : Count) (message : List ℕ) where
   taken h t w (Expects.x5 p k) = rw k (in-set-up 0 (rw p refl))
   taken h t w (Expects.x6 p k) = rw k (all-with 0 (open-delivers 0 refl (rw p refl)) h t w k)
 
-  fault-not-0 : {k : ℕ} → Fault k → eqb k 0 ≡ false
-  fault-not-0 Fault.f202 = refl
-  fault-not-0 Fault.f203 = refl
-  fault-not-0 Fault.f208 = refl
-  fault-not-0 Fault.f209 = refl
-  fault-not-0 Fault.f206 = refl
-  fault-not-0 Fault.f205 = refl
-  fault-not-0 Fault.f204 = refl
+  fault-not-0 : {k : ℕ} → IsFault k → eqb k 0 ≡ false
+  fault-not-0 IsFault.f202 = refl
+  fault-not-0 IsFault.f203 = refl
+  fault-not-0 IsFault.f208 = refl
+  fault-not-0 IsFault.f209 = refl
+  fault-not-0 IsFault.f206 = refl
+  fault-not-0 IsFault.f205 = refl
+  fault-not-0 IsFault.f204 = refl
 
   counted : (room : ℕ) → Counts (receiveOutcome c now message room)
   unfolding refusing
