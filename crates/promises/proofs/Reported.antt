@@ -5,7 +5,7 @@ use mathlib.Core.Path.{_≡_, refl, sym, ap, subst, _∙_}
 use mathlib.Core.Bool.{Bool, true, false, not, _&&_, _||_}
 use mathlib.Core.List.{List, []}
 use native.Mathlib.Omega.{arith}
-use borrow.Author.Tests.{eqb-true, eqb-false, ltb-true, ltb-false, le-ltb, le-leb, lt-leb, eq-eqb, not-true}
+use borrow.Author.Tests.{eqb-true, ltb-true, ltb-false, le-ltb, le-leb, lt-leb, eq-eqb, not-true}
 use lib.Dec.{T, leb, ltb, eqb}
 use lib.IntN.{ℤ, pos, negsuc}
 use lib.ListN.{length}
@@ -75,7 +75,7 @@ use Rattle.promises.specs.Promises.{tellsAge, reportedBy, GoesByAge}
 use Rattle.calls.proofs.Replies.{both}
 use Rattle.promises.proofs.Promises.{receive-refusal-by, tick-by}
 use Rattle.promises.proofs.Opening.{Expects, expected-is, and-both}
-use Rattle.promises.proofs.Delivery as Delivery
+use Rattle.promises.proofs.Delivery.{is-data}
 use Rattle.promises.proofs.Valid.{no-way}
 
 -- ---- what an age says, by its verdict
@@ -160,11 +160,7 @@ module _ (c : Connection) (now : Count) (h : Header) (t : Tail) (k : ℕ) where
   follows-number =
       both Numbered (eqb k 0) _ _ (λ e. taken-number c now h t ∙ sym (eqb-true k 0 e)) (λ _.
       both Numbered (eqb (c .phase) opened) _ _ (λ _. open-number) (λ _.
-      both Numbered (eqb (c .phase) initiatorWaitsFor4 && eqb k 209) _ _ (λ e. sym (eqb-true k 209 (second (eqb (c .phase) initiatorWaitsFor4) (eqb k 209) e))) (λ _. refl)))
-    where
-      second : (a b : Bool) → a && b ≡ true → b ≡ true
-      second true b e = e
-      second false b e = no-way (sym e)
+      both Numbered (eqb (c .phase) initiatorWaitsFor4 && eqb k 209) _ _ (λ e. sym (eqb-true k 209 (and-both (eqb (c .phase) initiatorWaitsFor4) (eqb k 209) e .1))) (λ _. refl)))
 
 -- ---- the age that goes with it
 
@@ -282,13 +278,9 @@ module _ (c : Connection) (now : Count) (h : Header) (t : Tail) where
       fresh : eqb (ageFault c now h .number) 206 ≡ false → eqb (ageFault c now h .number) 205 ≡ false → verdict ≡ Fresh
       fresh f l = is-fresh verdict (rw (by-verdict type) at f) (rw (by-verdict type) at l)
 
-  -- the type that an open connection expects
-  is-data : Expects (c .phase) (h .kind) → c .phase ≡ opened → h .kind ≡ application
-  is-data x o = Delivery.is-data c now [] h x (eq-eqb (c .phase) opened o)
-
   met-goes : c .phase ≡ opened → (x : Expectation) → expectationOf (c .phase) (h .kind) ≡ x → Goes (metOf c now h t x .number)
   unfolding reportsAge
-  met-goes o Expected e = subst Goes (sym (follows-number c now h t (faultNumber c now h t))) (fault-goes (is-data (expected-is (c .phase) (h .kind) e) o))
+  met-goes o Expected e = subst Goes (sym (follows-number c now h t (faultNumber c now h t))) (fault-goes (is-data c now [] h (expected-is (c .phase) (h .kind) e) (eq-eqb (c .phase) opened o)))
   met-goes o Unexpected e = λ q. no-way (sym q)
   met-goes o Released e = λ q. no-way (sym q)
 

@@ -12,6 +12,7 @@ use Rattle.connection.specs.declared.Connection.{Connection}
 use Rattle.connection.specs.Connection.{opened}
 use Rattle.peer_faults.specs.Faults.{reportsAge}
 use Rattle.promises.specs.Promises.{deliversTo, tellsAge, GoesByAge}
+use Rattle.promises.proofs.Opening.{and-both}
 
 -- ---- an age is reported with them
 
@@ -49,12 +50,8 @@ module _ (t-max : ℕ) (age : ℤ) (k : ℕ) (goes : GoesByAge t-max age k) wher
   unfolding verdictOf deliversTo
   fresh-verdict c e = rw (sym (goes .future) ∙ not-these k delivered .0, sym (goes .late) ∙ not-these k delivered .1) refl
     where
-      second : (o d : Bool) → o && d ≡ true → d ≡ true
-      second true d e = e
-      second false d e = absurd (subst T (sym e) tt)
-
       delivered : eqb k 0 || eqb k 204 ≡ true
-      delivered = second (eqb (c .phase) opened) (eqb k 0 || eqb k 204) e
+      delivered = and-both (eqb (c .phase) opened) (eqb k 0 || eqb k 204) e .1
 
   pub late-verdict : k ≡ 205 → verdictOf age t-max ≡ Late
   unfolding verdictOf

@@ -2,7 +2,6 @@
 ghost use mathlib.Core.Path.{_≡_};
 ghost use Rattle.what_follows.specs.Follows.{
   comesTo,
-  reporting,
   kept,
   released,
   sending,
@@ -82,15 +81,6 @@ fn comes_to(
         reply,
         next,
     }
-}
-
-// AGE-7: the same outcome, with an age that is reported.
-fn reporting(age: Age, o: Outcome) -> Outcome
-    ensures { λ r. ⌜ r ≡ reporting age o ⌝ }
-{
-    let mut told = o;
-    told.age = age;
-    told
 }
 
 // The connection goes on.
@@ -301,7 +291,9 @@ fn judged_by(c: Connection, now: Count, h: Header, t: Tail, fault: Fault) -> Out
     ensures { λ r. ⌜ r ≡ judgedBy c now h t fault ⌝ }
 {
     let age = fault.age;
-    reporting(age, follows_of(c, now, h, t, fault.number))
+    let mut told = follows_of(c, now, h, t, fault.number);
+    told.age = age;
+    told
 }
 
 fn met_of(c: Connection, now: Count, h: Header, t: Tail, expectation: Expectation) -> Outcome
