@@ -164,32 +164,48 @@ module _ (c : Connection) (now : Count) (h : Header) (t : Tail) (k : ℕ) where
 
 -- ---- the age that goes with it
 
-pub none-with : (c : Connection) (now : Count) (p : Parsed) (k : ℕ) → reportsAge k ≡ false → noAge ≡ reportedBy c now p k
+and-false : (a : Bool) → a && false ≡ false
+and-false true = refl
+and-false false = refl
+
+-- AGE-8: none goes with an answer of set-up, and none with another number
+in-set-up : (c : Connection) (k : ℕ) → eqb (c .phase) opened ≡ false → tellsAge c k ≡ false
 unfolding tellsAge
-none-with c now Parsed.Malformed k e = refl
-none-with c now (Parsed.Whole h t) k e = rw e (go (eqb (c .phase) opened))
-  where
-    go : (b : Bool) → noAge ≡ (when b && false answer timeCheckOf c now h .age else noAge)
-    go true = refl
-    go false = refl
+in-set-up c k e = rw e refl
+
+other-number : (c : Connection) (k : ℕ) → reportsAge k ≡ false → tellsAge c k ≡ false
+unfolding tellsAge
+other-number c k e = rw e (and-false (eqb (c .phase) opened))
+
+untold : (c : Connection) (now : Count) (p : Parsed) (k : ℕ) → tellsAge c k ≡ false → noAge ≡ reportedBy c now p k
+untold c now Parsed.Malformed k e = refl
+untold c now (Parsed.Whole h t) k e =
+    let off : (when tellsAge c k answer timeCheckOf c now h .age else noAge) ≡ noAge = rw e refl in
+    sym off
+
+pub none-with : (c : Connection) (now : Count) (p : Parsed) (k : ℕ) → reportsAge k ≡ false → noAge ≡ reportedBy c now p k
+none-with c now p k e = untold c now p k (other-number c k e)
 
 module _ (c : Connection) (now : Count) (h : Header) (t : Tail) (k : ℕ) where
-  -- in set-up no message has an age
-  no-age : eqb (h .kind) application ≡ false → eqb (c .phase) opened ≡ false → ageWith c now h k ≡ reportedBy c now (Parsed.Whole h t) k
-  unfolding ageWith ageFault tellsAge
-  no-age e s = rw (e, s) (go (reportsAge k))
+  -- no message of set-up has one
+  pub no-age : eqb (h .kind) application ≡ false → ageWith c now h k ≡ noAge
+  unfolding ageWith ageFault
+  no-age e = rw e (go (reportsAge k))
     where
       go : (b : Bool) → (when b answer noAge else noAge) ≡ noAge
       go true = refl
       go false = refl
 
+  set-up-age : eqb (h .kind) application ≡ false → eqb (c .phase) opened ≡ false → ageWith c now h k ≡ reportedBy c now (Parsed.Whole h t) k
+  set-up-age e s = no-age e ∙ untold c now (Parsed.Whole h t) k (in-set-up c k s)
+
   age-with : Expects (c .phase) (h .kind) → ageWith c now h k ≡ reportedBy c now (Parsed.Whole h t) k
   unfolding ageWith ageFault tellsAge
-  age-with (Expects.x1 p e) = no-age (rw e refl) (rw p refl)
-  age-with (Expects.x2 p e) = no-age (rw e refl) (rw p refl)
-  age-with (Expects.x3 p e) = no-age (rw e refl) (rw p refl)
-  age-with (Expects.x4 p e) = no-age (rw e refl) (rw p refl)
-  age-with (Expects.x5 p e) = no-age (rw e refl) (rw p refl)
+  age-with (Expects.x1 p e) = set-up-age (rw e refl) (rw p refl)
+  age-with (Expects.x2 p e) = set-up-age (rw e refl) (rw p refl)
+  age-with (Expects.x3 p e) = set-up-age (rw e refl) (rw p refl)
+  age-with (Expects.x4 p e) = set-up-age (rw e refl) (rw p refl)
+  age-with (Expects.x5 p e) = set-up-age (rw e refl) (rw p refl)
   age-with (Expects.x6 p e) = rw (p, e) refl
 
 -- ---- a receive

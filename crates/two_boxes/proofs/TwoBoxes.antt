@@ -68,7 +68,7 @@ use Rattle.peer_faults.specs.declared.Expectation.the-variants.{Expected}
 use Rattle.what_follows.specs.declared.Reply.{Reply}
 use Rattle.what_follows.specs.declared.Reply.the-variants.{Send}
 use Rattle.what_follows.specs.declared.Outcome.{Outcome}
-use Rattle.peer_faults.specs.Faults.{expectationOf, numberJudged, notAhead, beyondN, gap, wrongEcho, accepts, checkFailed, ageFault, faultNumber, reportsAge, ageWith}
+use Rattle.peer_faults.specs.Faults.{expectationOf, numberJudged, notAhead, beyondN, gap, wrongEcho, accepts, checkFailed, ageFault, faultNumber}
 use Rattle.what_follows.specs.Follows.{
   reporting,
   kept,
@@ -107,6 +107,7 @@ use Rattle.calls.specs.Calls.{
   leftBy,
   made,
 }
+use Rattle.promises.proofs.Reported.{no-age}
 use Rattle.two_boxes.specs.TwoBoxes.{
   Boxes,
   givenTo,
@@ -177,18 +178,9 @@ no-refusal c now room l g r =
 module _ (c : Connection) (now : Count) (message : List ℕ) (room : ℕ) (h : Header) (t : Tail) (l : Live c) (r : estSize ≤ room)
     (p : parsedOf message ≡ Parsed.Whole h t) (x : expectationOf (c .phase) (h .kind) ≡ Expected) (k : ℕ) (f : faultNumber c now h t ≡ k)
     (no-data : eqb (h .kind) application ≡ false) where
-  -- a message of set-up has no age
-  no-age : ageWith c now h k ≡ noAge
-  unfolding ageWith ageFault
-  no-age = rw no-data (none (reportsAge k))
-    where
-      none : (b : Bool) → (when b answer noAge else noAge) ≡ noAge
-      none true = refl
-      none false = refl
-
   judged : goesBack (now .0) (c .clock .0) ≡ false → expired c now ≡ false → receiveOutcome c now message room ≡ reporting noAge (followsOf c now h t k)
   unfolding receiveOutcome stepOf
-  judged g e = rw (no-refusal c now room l g r, e, p, x, f) (ap (λ (a : Age). reporting a (followsOf c now h t k)) no-age)
+  judged g e = rw (no-refusal c now room l g r, e, p, x, f) (ap (λ (a : Age). reporting a (followsOf c now h t k)) (no-age c now h t k no-data))
 
   -- a wait that began with the last call, and is within T_start
   judged-in-time : c .clock .0 ≡ c .«wait_start» .0 → waitOf (now .0) (c .«wait_start» .0) < c .settings .«t_start»
