@@ -80,14 +80,16 @@ use Rattle.promises.proofs.Valid.{no-way}
 
 -- ---- what an age says, by its verdict
 
-future-goes : (t : ℕ) (age : ℤ) → verdictOf age t ≡ Future → GoesByAge t age 206
+fresh-goes : (t : ℕ) (age : ℤ) (k : ℕ) → eqb k 206 ≡ false → eqb k 205 ≡ false → eqb k 0 || eqb k 204 ≡ true → verdictOf age t ≡ Fresh → GoesByAge t age k
 unfolding verdictOf
-future-goes t (pos n) e = absurd (not-future (ltb t n) (simp (le-ltb n 0 (omega arith)) at e))
+fresh-goes t (pos n) k f l d e = go (ltb t n) refl (simp (le-ltb n 0 (omega arith)) at e)
   where
-    not-future : (b : Bool) → (when b answer Late else Fresh) ≡ Future → ⊥
-    not-future true q = let z : _≡_ {A = ℕ} 0 1 = cc in omega arith
-    not-future false q = let z : _≡_ {A = ℕ} 0 1 = cc in omega arith
-future-goes t (negsuc n) e = record { future = refl; late = refl; fresh = refl }
+    go : (b : Bool) → ltb t n ≡ b → (when b answer Late else Fresh) ≡ Fresh → GoesByAge t (pos n) k
+    go true q x = let z : _≡_ {A = ℕ} 0 1 = cc in let w : ⊥ = omega arith in absurd w
+    go false q _ =
+        let h = ltb-false t n q in
+        record { future = f ∙ sym (le-ltb n 0 (omega arith)); late = l ∙ sym q; fresh = d ∙ rw (le-leb 0 n (omega arith), le-leb n t h) refl }
+fresh-goes t (negsuc n) k f l d e = let z : _≡_ {A = ℕ} 0 1 = cc in let w : ⊥ = omega arith in absurd w
 
 late-goes : (t : ℕ) (age : ℤ) → verdictOf age t ≡ Late → GoesByAge t age 205
 unfolding verdictOf
@@ -100,16 +102,14 @@ late-goes t (pos n) e = go (ltb t n) refl (simp (le-ltb n 0 (omega arith)) at e)
     go false q x = let z : _≡_ {A = ℕ} 0 1 = cc in let w : ⊥ = omega arith in absurd w
 late-goes t (negsuc n) e = let z : _≡_ {A = ℕ} 0 1 = cc in let w : ⊥ = omega arith in absurd w
 
-fresh-goes : (t : ℕ) (age : ℤ) (k : ℕ) → eqb k 206 ≡ false → eqb k 205 ≡ false → eqb k 0 || eqb k 204 ≡ true → verdictOf age t ≡ Fresh → GoesByAge t age k
+future-goes : (t : ℕ) (age : ℤ) → verdictOf age t ≡ Future → GoesByAge t age 206
 unfolding verdictOf
-fresh-goes t (pos n) k f l d e = go (ltb t n) refl (simp (le-ltb n 0 (omega arith)) at e)
+future-goes t (pos n) e = absurd (not-future (ltb t n) (simp (le-ltb n 0 (omega arith)) at e))
   where
-    go : (b : Bool) → ltb t n ≡ b → (when b answer Late else Fresh) ≡ Fresh → GoesByAge t (pos n) k
-    go true q x = let z : _≡_ {A = ℕ} 0 1 = cc in let w : ⊥ = omega arith in absurd w
-    go false q _ =
-        let h = ltb-false t n q in
-        record { future = f ∙ sym (le-ltb n 0 (omega arith)); late = l ∙ sym q; fresh = d ∙ rw (le-leb 0 n (omega arith), le-leb n t h) refl }
-fresh-goes t (negsuc n) k f l d e = let z : _≡_ {A = ℕ} 0 1 = cc in let w : ⊥ = omega arith in absurd w
+    not-future : (b : Bool) → (when b answer Late else Fresh) ≡ Future → ⊥
+    not-future true q = let z : _≡_ {A = ℕ} 0 1 = cc in omega arith
+    not-future false q = let z : _≡_ {A = ℕ} 0 1 = cc in omega arith
+future-goes t (negsuc n) e = record { future = refl; late = refl; fresh = refl }
 
 is-future : (v : Verdict) → verdictNumber v ≡ 206 → v ≡ Future
 is-future Future e = refl
