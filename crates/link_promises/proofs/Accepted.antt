@@ -24,14 +24,19 @@ use Rattle.packet_writing.proofs.Answers.{all-written, says-all}
 use Rattle.links.specs.declared.State.{State}
 use Rattle.links.specs.declared.Taken.{Taken}
 use Rattle.links.specs.Taken.{handedUp}
-use Rattle.links.specs.Table.{lengthAt, lengthFault, judgeable, held, bothDown, openingOf, notOpening, notLater, tooFar, classDRows, rowsOf, userDataOf}
-use Rattle.link_promises.specs.Promises.{ofLink, LooseHandsUp, AcceptedWritesBack}
+use Rattle.links.specs.Table.{lengthAt, lengthFault, judgeable, held, bothDown, openingOf, notOpening, notLater, tooFar, classDRows, rowsOf, takenOf, userDataOf}
+use Rattle.link_promises.specs.Promises.{ofLink, looksAt, LooseHandsUp, AcceptedWritesBack}
 use Rattle.links.proofs.Bools.{both-true, both-false}
 use Rattle.links.proofs.ClassRows.{row-later}
 use Rattle.links.proofs.LinkRows.{row-class}
 use Rattle.links.proofs.Step.{normal-up, redundant-up, at-normal, at-redundant}
 use Rattle.link_promises.proofs.Outcome.{Accepted, by-step}
 use Rattle.link_promises.proofs.Promises.{data-of-packet}
+
+-- a packet that stands on a link has no length fault
+pub right-length : (link : Bool) (s : List ℕ) (at : ℕ) → PacketOn link s at → lengthFault (lengthAt s at) ≡ false
+unfolding lengthFault
+right-length link s at p = simp (le-ltb (lengthAt s at) leastLength (p .least), le-ltb mostLength (lengthAt s at) (p .most))
 
 -- ---- the loose setting
 
@@ -54,32 +59,36 @@ unfolding tooFar
 never-too-far strict d e = simp e
 
 -- the rows of the link looked at
-module _ (link : Bool) (s : List ℕ) (at : ℕ) (state : State) (p : PacketOn link s at) (k : (packetHeaderAt s at .kind ≡ dataPacket) ⊎ (packetHeaderAt s at .kind ≡ releasePacket))
+module _ (link : Bool) (s : List ℕ) (at : ℕ) (callers : List ℕ) (ours : ℕ) (state : State) (p : PacketOn link s at) (k : (packetHeaderAt s at .kind ≡ dataPacket) ⊎ (packetHeaderAt s at .kind ≡ releasePacket))
     (f : state .first ≡ false) (loose : state .strict ≡ false)
     (l : 1 ≤ distanceOf (packetHeaderAt s at .number) (state .last)) (h : distanceOf (packetHeaderAt s at .number) (state .last) < behindFrom) where
-  right-length : lengthFault (lengthAt s at) ≡ false
-  unfolding lengthFault
-  right-length = simp (le-ltb (lengthAt s at) leastLength (p .least), le-ltb mostLength (lengthAt s at) (p .most))
-
-  loose-row : bothDown state ≡ false → handedUp link at (packetHeaderAt s at) state ≡ rowsOf true link s at state
+  loose-row : bothDown state ≡ false → handedUp link at (packetHeaderAt s at) state ≡ rowsOf true link s at callers ours state
   loose-row b =
       let d = distanceOf (packetHeaderAt s at .number) (state .last) in
       let c = data-or-release (packetHeaderAt s at .kind) k in
-      row-later link at (packetHeaderAt s at) (userDataAt s at) state (c .0) f d refl (in-time (packetHeaderAt s at .kind) d (c .1) l h) (never-too-far (state .strict) d loose)
-      ∙ row-class link s at state (classDRows link at (packetHeaderAt s at) (userDataAt s at) state) b right-length (p .right) (p .flagged)
+      row-later link at (packetHeaderAt s at) (userDataAt s at) callers ours state (c .0) f d refl (in-time (packetHeaderAt s at .kind) d (c .1) l h) (never-too-far (state .strict) d loose)
+      ∙ row-class link s at state (classDRows link at (packetHeaderAt s at) (userDataAt s at) callers ours state) b (right-length link s at p) (p .right) (p .flagged)
 
-module _ (normal : List ℕ) (normalAt : ℕ) (redundant : List ℕ) (redundantAt : ℕ) (state : State) where
-  pub loose-hands-up : LooseHandsUp normal normalAt redundant redundantAt state
-  loose-hands-up true looks p k f loose l h =
+module _ (normal : List ℕ) (normalAt : ℕ) (redundant : List ℕ) (redundantAt : ℕ) (callers : List ℕ) (ours : ℕ) (state : State) where
+  -- what the rows of the link looked at give, the step takes
+  pub by-link : (link : Bool) (t : Taken) → looksAt normal normalAt redundant redundantAt callers ours state link ≡ true
+      → (bothDown state ≡ false → t ≡ rowsOf true link (ofLink link normal redundant) (ofLink link normalAt redundantAt) callers ours state)
+      → takenOf normal normalAt redundant redundantAt callers ours state ≡ t
+  by-link true t looks rows =
       sym
-      (loose-row true normal normalAt state p k f loose l h (normal-up state (both-true (state .«normal_up») (judgeable normal normalAt) looks .0))
-      ∙ at-normal normal normalAt redundant redundantAt state looks)
-  loose-hands-up false looks p k f loose l h =
+      (rows (normal-up state (both-true (state .«normal_up») (judgeable normal normalAt) looks .0))
+      ∙ at-normal normal normalAt redundant redundantAt callers ours state looks)
+  by-link false t looks rows =
       let b = both-true (not (held (state .«normal_up») normal normalAt)) (held (state .«redundant_up») redundant redundantAt) looks in
       sym
-      (loose-row false redundant redundantAt state p k f loose l h
-      (redundant-up state (both-true (state .«redundant_up») (judgeable redundant redundantAt) (b .1) .0))
-      ∙ at-redundant normal normalAt redundant redundantAt state (not-true (held (state .«normal_up») normal normalAt) (b .0)) (b .1))
+      (rows (redundant-up state (both-true (state .«redundant_up») (judgeable redundant redundantAt) (b .1) .0))
+      ∙ at-redundant normal normalAt redundant redundantAt callers ours state (not-true (held (state .«normal_up») normal normalAt) (b .0)) (b .1))
+
+  pub loose-hands-up : LooseHandsUp normal normalAt redundant redundantAt callers ours state
+  loose-hands-up link looks p k f loose l h =
+      let s = ofLink link normal redundant in
+      let at = ofLink link normalAt redundantAt in
+      by-link link (handedUp link at (packetHeaderAt s at) state) looks (loose-row link s at callers ours state p k f loose l h)
 
 -- ---- written back
 
@@ -95,7 +104,7 @@ unfolding notLater
 opens-nothing kind d e = both-false (opens kind) (eqb d 0) (both-false (opens kind || eqb d 0) (leb behindFrom d) e .0) .0
 
 -- a packet that is handed up is not refused when it is written: an AU1 or AU2 is handed up only as a first packet, and then has no opening fault
-module _ (link : Bool) (s : List ℕ) (at : ℕ) (state : State) (c : Accepted link s at state) where
+module _ (link : Bool) (s : List ℕ) (at : ℕ) (callers : List ℕ) (ours : ℕ) (state : State) (c : Accepted link s at callers ours state) where
   abbrev h : Header
   h = packetHeaderAt s at
 
@@ -132,10 +141,10 @@ module _ (link : Bool) (s : List ℕ) (at : ℕ) (state : State) (c : Accepted l
       wrote : ℕ → Written
       wrote k = record { answer = 0; written = k }
 
-module _ (normal : List ℕ) (normalAt : ℕ) (redundant : List ℕ) (redundantAt : ℕ) (state : State) where
-  pub accepted-writes-back : AcceptedWritesBack normal normalAt redundant redundantAt state
+module _ (normal : List ℕ) (normalAt : ℕ) (redundant : List ℕ) (redundantAt : ℕ) (callers : List ℕ) (ours : ℕ) (state : State) where
+  pub accepted-writes-back : AcceptedWritesBack normal normalAt redundant redundantAt callers ours state
   accepted-writes-back room =
-      by-step normal normalAt redundant redundantAt state
+      by-step normal normalAt redundant redundantAt callers ours state
       (λ (t : Taken).
       t .answer ≡ 0 → Bytes (ofLink (t .normal) normal redundant) → t .used ≤ room
       → (packetWritten room (t .number) (t .kind) (userDataOf normal redundant t) ≡ record { answer = 0; written = t .used })
@@ -146,4 +155,4 @@ module _ (normal : List ℕ) (normalAt : ℕ) (redundant : List ℕ) (redundantA
       (λ link a m g p z b r. let f : ⊥ = omega arith in absurd f)
       (λ link c z b r.
       rw (data-of-packet normal redundant link (ofLink link normalAt redundantAt) state (c .stands))
-      (written-back link (ofLink link normal redundant) (ofLink link normalAt redundantAt) state c room b r))
+      (written-back link (ofLink link normal redundant) (ofLink link normalAt redundantAt) callers ours state c room b r))

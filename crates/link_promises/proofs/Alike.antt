@@ -18,6 +18,7 @@ use Rattle.links.specs.declared.State.{State}
 use Rattle.links.specs.declared.Taken.{Taken}
 use Rattle.packet.specs.Sizes.{mostPacket, packetSize}
 use Rattle.links.specs.Taken.{downOf, emptyPart, dropped, handedUp}
+use Rattle.links.specs.Callers.{notAllowed}
 use Rattle.links.specs.Table.{lengthFault, judgeable, held, bothDown, notOpening, notLater, tooFar, linkRows, classDRows, rowsOf, takenOf}
 use Rattle.link_promises.specs.Promises.{ofLink, seenFrom, placeless, Alike, SeesNoMoreThanAPacket, BufferSeenAsFile}
 use Rattle.links.proofs.Bools.{both-true, by-rows-alike}
@@ -26,7 +27,7 @@ use Rattle.link_promises.proofs.Outcome.{packet-on}
 use Rattle.link_promises.proofs.Promises.{no-part, data-of-packet}
 
 -- the link looked at, in two pairs of links
-module _ (normal redundant normal′ redundant′ : List ℕ) (link : Bool) (at at′ : ℕ) (state : State)
+module _ (normal redundant normal′ redundant′ : List ℕ) (link : Bool) (at at′ : ℕ) (callers : List ℕ) (ours : ℕ) (state : State)
     (seen : seenFrom (ofLink link normal redundant) at ≡ seenFrom (ofLink link normal′ redundant′) at′) where
   abbrev s : List ℕ
   s = ofLink link normal redundant
@@ -53,19 +54,20 @@ module _ (normal redundant normal′ redundant′ : List ℕ) (link : Bool) (at 
       (empty answer (packetSize (packetHeaderAt s′ at′ .length)) link state z)
 
   class-alike : PacketOn link s at → PacketOn link s′ at′ → userDataAt s at ≡ userDataAt s′ at′
-      → R (classDRows link at (packetHeaderAt s at) (userDataAt s at) state) (classDRows link at′ (packetHeaderAt s′ at′) (userDataAt s′ at′) state)
+      → R (classDRows link at (packetHeaderAt s at) (userDataAt s at) callers ours state) (classDRows link at′ (packetHeaderAt s′ at′) (userDataAt s′ at′) callers ours state)
   unfolding classDRows
   class-alike p p′ d =
       by-rows-alike R _ _ (ap (λ (h : Header). not (inClassD (h .kind))) header) (λ e. drops 305 (λ z. omega arith)) (λ e.
       by-rows-alike R _ _ (ap₂ (λ (h : Header) (u : List ℕ). state .first && notOpening (state .responder) h u) header d) (λ e. drops 309 (λ z. omega arith)) (λ e.
+      by-rows-alike R _ _ (ap (λ (u : List ℕ). state .first && state .responder && notAllowed callers ours u) d) (λ e. drops 310 (λ z. omega arith)) (λ e.
       by-rows-alike R _ _ (ap (λ (h : Header). not (state .first) && notLater (h .kind) (distanceOf (h .number) (state .last))) header) (λ e. drops 306 (λ z. omega arith)) (λ e.
       by-rows-alike R _ _ (ap (λ (h : Header). not (state .first) && tooFar (state .strict) (distanceOf (h .number) (state .last))) header) (λ e. drops 307 (λ z. omega arith)) (λ e.
       record {
         same-taken = ap (λ (h : Header). placeless (handedUp link 0 h state)) header;
         same-data = data-of-packet normal redundant link at state p ∙ d ∙ sym (data-of-packet normal′ redundant′ link at′ state p′);
-      }))))
+      })))))
 
-  rows-alike : (found found′ : Bool) → found ≡ found′ → (found ≡ true → judgeable s at ≡ true) → R (rowsOf found link s at state) (rowsOf found′ link s′ at′ state)
+  rows-alike : (found found′ : Bool) → found ≡ found′ → (found ≡ true → judgeable s at ≡ true) → R (rowsOf found link s at callers ours state) (rowsOf found′ link s′ at′ callers ours state)
   unfolding linkRows
   rows-alike found found′ same there =
       let length = ap lengthFault (same-length s at s′ at′ seen) in
@@ -83,12 +85,12 @@ module _ (normal redundant normal′ redundant′ : List ℕ) (link : Bool) (at 
 
 pub sees-no-more-than-a-packet : SeesNoMoreThanAPacket
 unfolding takenOf
-sees-no-more-than-a-packet normal normalAt redundant redundantAt normal′ normalAt′ redundant′ redundantAt′ state n r =
+sees-no-more-than-a-packet normal normalAt redundant redundantAt normal′ normalAt′ redundant′ redundantAt′ callers ours state n r =
     by-rows-alike (λ (t t′ : Taken). Alike normal redundant t normal′ redundant′ t′) (held (state .«normal_up») normal normalAt)
     (held (state .«normal_up») normal′ normalAt′) (ap (λ (b : Bool). state .«normal_up» && b) (same-judgeable normal normalAt normal′ normalAt′ n))
-    (λ e. rows-alike normal redundant normal′ redundant′ true normalAt normalAt′ state n true true refl
+    (λ e. rows-alike normal redundant normal′ redundant′ true normalAt normalAt′ callers ours state n true true refl
     (λ _. both-true (state .«normal_up») (judgeable normal normalAt) e .1))
-    (λ e. rows-alike normal redundant normal′ redundant′ false redundantAt redundantAt′ state r
+    (λ e. rows-alike normal redundant normal′ redundant′ false redundantAt redundantAt′ callers ours state r
     (held (state .«redundant_up») redundant redundantAt) (held (state .«redundant_up») redundant′ redundantAt′)
     (ap (λ (b : Bool). state .«redundant_up» && b) (same-judgeable redundant redundantAt redundant′ redundantAt′ r))
     (λ h. both-true (state .«redundant_up») (judgeable redundant redundantAt) h .1))

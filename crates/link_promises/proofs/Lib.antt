@@ -1,6 +1,7 @@
 -- The promises of every step, proved from what may follow it (Outcome).
 pub mod Accepted
 pub mod Alike
+pub mod Callers
 pub mod Cases
 pub mod Forward
 pub mod Outcome

@@ -15,16 +15,18 @@ use Rattle.packet.specs.Packet.{packetHeaderAt, checkAt, userDataAt, flagOf, Pa
 use Rattle.links.specs.declared.State.{State}
 use Rattle.links.specs.declared.Taken.{Taken}
 use Rattle.links.specs.Taken.{nothingChanges, linkDown, dropped, handedUp}
+use Rattle.links.specs.Callers.{notAllowed}
 use Rattle.links.specs.Table.{lengthAt, lengthFault, judgeable, bothDown, notOpening, notLater, tooFar, linkRows, classDRows, rowsOf, takenOf}
 use Rattle.link_promises.specs.Promises.{linkAnswers, ofLink}
-use Rattle.links.proofs.Bools.{both-true, by-row, second-false, not-of-false}
+use Rattle.links.proofs.Bools.{both-true, by-row, second-false, third-false, not-of-false}
 use Rattle.links.proofs.Judged.{length-right, all-there}
 
 -- why a packet of a link is handed up
-pub record Accepted (normal : Bool) (s : List ℕ) (at : ℕ) (state : State) : Type 0 where
+pub record Accepted (normal : Bool) (s : List ℕ) (at : ℕ) (callers : List ℕ) (ours : ℕ) (state : State) : Type 0 where
   pub stands : PacketOn normal s at
   pub of-class-d : inClassD (packetHeaderAt s at .kind) ≡ true
   pub opening : state .first ≡ true → notOpening (state .responder) (packetHeaderAt s at) (userDataAt s at) ≡ false
+  pub allowed : state .first ≡ true → state .responder ≡ true → notAllowed callers ours (userDataAt s at) ≡ false
   pub later : state .first ≡ false → notLater (packetHeaderAt s at .kind) (distanceOf (packetHeaderAt s at .number) (state .last)) ≡ false
   pub near : state .first ≡ false → tooFar (state .strict) (distanceOf (packetHeaderAt s at .number) (state .last)) ≡ false
 
@@ -45,28 +47,30 @@ packet-on normal s at h l c f = record {
   flagged = eqb-true _ _ (not-false _ f);
 }
 
-module _ (normal : Bool) (s : List ℕ) (at : ℕ) (state : State) (P : Taken → Type 0)
+module _ (normal : Bool) (s : List ℕ) (at : ℕ) (callers : List ℕ) (ours : ℕ) (state : State) (P : Taken → Type 0)
     (nothing : (answer : ℕ) → List·Memᴰ answer linkAnswers → (answer ≡ 308) ⊎ (answer ≡ 301) → P (nothingChanges answer state))
     (down : (answer : ℕ) → List·Memᴰ answer linkAnswers → 302 ≤ answer → answer ≤ 304 → P (linkDown answer normal state))
     (drops : (answer : ℕ) → List·Memᴰ answer linkAnswers → 304 < answer → PacketOn normal s at → P (dropped answer normal (packetHeaderAt s at) state))
-    (hands : Accepted normal s at state → P (handedUp normal at (packetHeaderAt s at) state)) where
-  by-class : PacketOn normal s at → P (classDRows normal at (packetHeaderAt s at) (userDataAt s at) state)
+    (hands : Accepted normal s at callers ours state → P (handedUp normal at (packetHeaderAt s at) state)) where
+  by-class : PacketOn normal s at → P (classDRows normal at (packetHeaderAt s at) (userDataAt s at) callers ours state)
   unfolding classDRows
   by-class p =
       by-row P _ (λ e. drops 305 (entry linkAnswers 5 (omega arith)) (omega arith) p) (λ e₁.
       by-row P _ (λ e. drops 309 (entry linkAnswers 6 (omega arith)) (omega arith) p) (λ e₂.
-      by-row P _ (λ e. drops 306 (entry linkAnswers 7 (omega arith)) (omega arith) p) (λ e₃.
-      by-row P _ (λ e. drops 307 (entry linkAnswers 8 (omega arith)) (omega arith) p) (λ e₄.
+      by-row P _ (λ e. drops 310 (entry linkAnswers 7 (omega arith)) (omega arith) p) (λ e₃.
+      by-row P _ (λ e. drops 306 (entry linkAnswers 8 (omega arith)) (omega arith) p) (λ e₄.
+      by-row P _ (λ e. drops 307 (entry linkAnswers 9 (omega arith)) (omega arith) p) (λ e₅.
       hands
       (record {
         stands = p;
         of-class-d = not-false _ e₁;
         opening = λ f. second-false _ _ e₂ f;
-        later = λ f. second-false _ _ e₃ (not-of-false _ f);
-        near = λ f. second-false _ _ e₄ (not-of-false _ f);
-      })))))
+        allowed = λ f r. third-false _ _ _ e₃ f r;
+        later = λ f. second-false _ _ e₄ (not-of-false _ f);
+        near = λ f. second-false _ _ e₅ (not-of-false _ f);
+      }))))))
 
-  pub by-rows : (found : Bool) → (found ≡ true → judgeable s at ≡ true) → P (rowsOf found normal s at state)
+  pub by-rows : (found : Bool) → (found ≡ true → judgeable s at ≡ true) → P (rowsOf found normal s at callers ours state)
   unfolding linkRows
   by-rows found there =
       by-row P (bothDown state) (λ e. nothing 308 (entry linkAnswers 0 (omega arith)) (inl refl)) (λ e₀.
@@ -76,17 +80,17 @@ module _ (normal : Bool) (s : List ℕ) (at : ℕ) (state : State) (P : Taken �
       by-row P _ (λ e. down 304 (entry linkAnswers 4 (omega arith)) (omega arith) (omega arith)) (λ e₄.
       by-class (packet-on normal s at (there (not-false _ e₁)) e₂ e₃ e₄))))))
 
-module _ (normal : List ℕ) (normalAt : ℕ) (redundant : List ℕ) (redundantAt : ℕ) (state : State) (P : Taken → Type 0)
+module _ (normal : List ℕ) (normalAt : ℕ) (redundant : List ℕ) (redundantAt : ℕ) (callers : List ℕ) (ours : ℕ) (state : State) (P : Taken → Type 0)
     (nothing : (answer : ℕ) → List·Memᴰ answer linkAnswers → (answer ≡ 308) ⊎ (answer ≡ 301) → P (nothingChanges answer state))
     (down : (link : Bool) (answer : ℕ) → List·Memᴰ answer linkAnswers → 302 ≤ answer → answer ≤ 304 → P (linkDown answer link state))
     (drops : (link : Bool) (answer : ℕ) → List·Memᴰ answer linkAnswers → 304 < answer → PacketOn link (ofLink link normal redundant) (ofLink link normalAt redundantAt)
     → P (dropped answer link (packetHeaderAt (ofLink link normal redundant) (ofLink link normalAt redundantAt)) state))
-    (hands : (link : Bool) → Accepted link (ofLink link normal redundant) (ofLink link normalAt redundantAt) state
+    (hands : (link : Bool) → Accepted link (ofLink link normal redundant) (ofLink link normalAt redundantAt) callers ours state
     → P (handedUp link (ofLink link normalAt redundantAt) (packetHeaderAt (ofLink link normal redundant) (ofLink link normalAt redundantAt)) state)) where
-  pub by-step : P (takenOf normal normalAt redundant redundantAt state)
+  pub by-step : P (takenOf normal normalAt redundant redundantAt callers ours state)
   unfolding takenOf
   by-step =
       by-row P (state .«normal_up» && judgeable normal normalAt)
-      (λ e. by-rows true normal normalAt state P nothing (down true) (drops true) (hands true) true (λ _. both-true (state .«normal_up») (judgeable normal normalAt) e .1))
-      (λ e. by-rows false redundant redundantAt state P nothing (down false) (drops false) (hands false)
+      (λ e. by-rows true normal normalAt callers ours state P nothing (down true) (drops true) (hands true) true (λ _. both-true (state .«normal_up») (judgeable normal normalAt) e .1))
+      (λ e. by-rows false redundant redundantAt callers ours state P nothing (down false) (drops false) (hands false)
       (state .«redundant_up» && judgeable redundant redundantAt) (λ h. both-true (state .«redundant_up») (judgeable redundant redundantAt) h .1))

@@ -46,49 +46,49 @@ redundant-down : (link : Bool) (state : State) → state .«redundant_up» ≡ f
 redundant-down true state e = e
 redundant-down false state e = refl
 
-module _ (normal : List ℕ) (normalAt : ℕ) (redundant : List ℕ) (redundantAt : ℕ) (state : State) where
+module _ (normal : List ℕ) (normalAt : ℕ) (redundant : List ℕ) (redundantAt : ℕ) (callers : List ℕ) (ours : ℕ) (state : State) where
   abbrev named : Taken → List ℕ
-  named taken = linkBytes normal normalAt redundant redundantAt state taken
+  named taken = linkBytes normal normalAt redundant redundantAt callers ours state taken
 
   abbrev here : Taken → ℕ
-  here taken = linkPlace normal normalAt redundant redundantAt state taken
+  here taken = linkPlace normal normalAt redundant redundantAt callers ours state taken
 
-  pub answers-of-the-table : AnswersOfTheTable normal normalAt redundant redundantAt state
+  pub answers-of-the-table : AnswersOfTheTable normal normalAt redundant redundantAt callers ours state
   answers-of-the-table =
-      by-step normal normalAt redundant redundantAt state (λ (t : Taken). List·Memᴰ (t .answer) linkAnswers) (λ a m o. m) (λ link a m l h. m)
-      (λ link a m l p. m) (λ link c. entry linkAnswers 9 (omega arith))
+      by-step normal normalAt redundant redundantAt callers ours state (λ (t : Taken). List·Memᴰ (t .answer) linkAnswers) (λ a m o. m) (λ link a m l h. m)
+      (λ link a m l p. m) (λ link c. entry linkAnswers 10 (omega arith))
 
-  pub down-stays-down : DownStaysDown normal normalAt redundant redundantAt state
+  pub down-stays-down : DownStaysDown normal normalAt redundant redundantAt callers ours state
   down-stays-down = (
-    λ e. by-step normal normalAt redundant redundantAt state (λ (t : Taken). t .state .«normal_up» ≡ false) (λ a m o. e)
+    λ e. by-step normal normalAt redundant redundantAt callers ours state (λ (t : Taken). t .state .«normal_up» ≡ false) (λ a m o. e)
         (λ link a m l h. normal-down link state e) (λ link a m l p. e) (λ link c. e),
-    λ e. by-step normal normalAt redundant redundantAt state (λ (t : Taken). t .state .«redundant_up» ≡ false) (λ a m o. e)
+    λ e. by-step normal normalAt redundant redundantAt callers ours state (λ (t : Taken). t .state .«redundant_up» ≡ false) (λ a m o. e)
         (λ link a m l h. redundant-down link state e) (λ link a m l p. e) (λ link c. e),
   )
 
-  pub uses-no-more-than-lent : UsesNoMoreThanLent normal normalAt redundant redundantAt state
+  pub uses-no-more-than-lent : UsesNoMoreThanLent normal normalAt redundant redundantAt callers ours state
   uses-no-more-than-lent =
-      by-step normal normalAt redundant redundantAt state (λ (t : Taken). here t ≤ length (named t) → here t + t .used ≤ length (named t)) (λ a m o w. omega arith)
+      by-step normal normalAt redundant redundantAt callers ours state (λ (t : Taken). here t ≤ length (named t) → here t + t .used ≤ length (named t)) (λ a m o w. omega arith)
       (λ link a m l h w. omega arith) (λ link a m l p w. p .whole) (λ link c w. c .stands .whole)
 
-  pub faults-put-one-link-down : FaultsPutOneLinkDown normal normalAt redundant redundantAt state
+  pub faults-put-one-link-down : FaultsPutOneLinkDown normal normalAt redundant redundantAt callers ours state
   faults-put-one-link-down =
-      by-step normal normalAt redundant redundantAt state
+      by-step normal normalAt redundant redundantAt callers ours state
       (λ (t : Taken). 302 ≤ t .answer → t .answer ≤ 304 → (t .used ≡ 0) × (t .state ≡ downOf (t .normal) state))
       (λ a m o l h. let z : ⊥ = ⊎-elim (λ b. omega arith) (λ b. omega arith) o in absurd z) (λ link a m l′ h′ l h. (refl, refl))
       (λ link a m b p l h. let z : ⊥ = omega arith in absurd z) (λ link c l h. let z : ⊥ = omega arith in absurd z)
 
-  pub others-hand-up-nothing : OthersHandUpNothing normal normalAt redundant redundantAt state
+  pub others-hand-up-nothing : OthersHandUpNothing normal normalAt redundant redundantAt callers ours state
   others-hand-up-nothing z = (
-    no-part normal redundant (takenOf normal normalAt redundant redundantAt state) z,
-    by-step normal normalAt redundant redundantAt state
+    no-part normal redundant (takenOf normal normalAt redundant redundantAt callers ours state) z,
+    by-step normal normalAt redundant redundantAt callers ours state
         (λ (t : Taken). (t .answer ≡ 0 → ⊥) → t ≡ emptyPart (t .answer) (t .normal) (t .used) (t .state)) (λ a m o z. refl) (λ link a m l h z. refl)
         (λ link a m b p z. refl) (λ link c z. absurd (z refl)) z,
   )
 
-  pub hands-up-the-packet : HandsUpThePacket normal normalAt redundant redundantAt state
+  pub hands-up-the-packet : HandsUpThePacket normal normalAt redundant redundantAt callers ours state
   hands-up-the-packet =
-      by-step normal normalAt redundant redundantAt state
+      by-step normal normalAt redundant redundantAt callers ours state
       (λ (t : Taken).
       t .answer ≡ 0
       → (userDataOf normal redundant t ≡ userDataAt (named t) (here t)) × (t ≡ handedUp (t .normal) (here t) (packetHeaderAt (named t) (here t)) state)
@@ -97,9 +97,9 @@ module _ (normal : List ℕ) (normalAt : ℕ) (redundant : List ℕ) (redundantA
       (λ link a m b p z. let f : ⊥ = omega arith in absurd f)
       (λ link c z. (data-of-packet normal redundant link (ofLink link normalAt redundantAt) state (c .stands), refl, c .stands))
 
-  pub counts-its-user-data : CountsItsUserData normal normalAt redundant redundantAt state
+  pub counts-its-user-data : CountsItsUserData normal normalAt redundant redundantAt callers ours state
   counts-its-user-data =
-      by-step normal normalAt redundant redundantAt state (λ (t : Taken). length (userDataOf normal redundant t) ≡ t .size)
+      by-step normal normalAt redundant redundantAt callers ours state (λ (t : Taken). length (userDataOf normal redundant t) ≡ t .size)
       (λ a m o. ap length (no-part normal redundant _ (λ z. ⊎-elim (λ b. omega arith) (λ b. omega arith) o)))
       (λ link a m l h. ap length (no-part normal redundant _ (λ z. omega arith)))
       (λ link a m b p. ap length (no-part normal redundant _ (λ z. omega arith)))

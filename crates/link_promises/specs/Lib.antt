@@ -1,2 +1,3 @@
 -- What is promised of every step over two links.
 pub mod Promises
+pub mod Callers

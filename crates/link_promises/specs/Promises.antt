@@ -27,12 +27,12 @@ linksUp state = cond (state .«normal_up») 1 0 + cond (state .«redundant_up»)
 
 -- LINK-ORDER: the answers of the table
 abbrev pub linkAnswers : List ℕ
-linkAnswers = 308 ∷ 301 ∷ 302 ∷ 303 ∷ 304 ∷ 305 ∷ 309 ∷ 306 ∷ 307 ∷ 0 ∷ []
+linkAnswers = 308 ∷ 301 ∷ 302 ∷ 303 ∷ 304 ∷ 305 ∷ 309 ∷ 310 ∷ 306 ∷ 307 ∷ 0 ∷ []
 
-module _ (normal : List ℕ) (normalAt : ℕ) (redundant : List ℕ) (redundantAt : ℕ) (state : State) where
+module _ (normal : List ℕ) (normalAt : ℕ) (redundant : List ℕ) (redundantAt : ℕ) (callers : List ℕ) (ours : ℕ) (state : State) where
   -- LINK-LOOK: one step over the two links
   abbrev pub step : Taken
-  step = takenOf normal normalAt redundant redundantAt state
+  step = takenOf normal normalAt redundant redundantAt callers ours state
 
   -- LINK-NAMED: the bytes of the link that an answer names
   abbrev pub linkBytes : Taken → List ℕ
@@ -140,10 +140,10 @@ pub record Alike (normal redundant : List ℕ) (taken : Taken) (normal′ redund
 abbrev pub SeesNoMoreThanAPacket : Type 0
 SeesNoMoreThanAPacket =
     (normal : List ℕ) (normalAt : ℕ) (redundant : List ℕ) (redundantAt : ℕ)
-    (normal′ : List ℕ) (normalAt′ : ℕ) (redundant′ : List ℕ) (redundantAt′ : ℕ) (state : State)
+    (normal′ : List ℕ) (normalAt′ : ℕ) (redundant′ : List ℕ) (redundantAt′ : ℕ) (callers : List ℕ) (ours : ℕ) (state : State)
     → seenFrom normal normalAt ≡ seenFrom normal′ normalAt′ → seenFrom redundant redundantAt ≡ seenFrom redundant′ redundantAt′
-    → Alike normal redundant (takenOf normal normalAt redundant redundantAt state)
-    normal′ redundant′ (takenOf normal′ normalAt′ redundant′ redundantAt′ state)
+    → Alike normal redundant (takenOf normal normalAt redundant redundantAt callers ours state)
+    normal′ redundant′ (takenOf normal′ normalAt′ redundant′ redundantAt′ callers ours state)
 
 -- LINK-SEEN: a buffer that has, from its place, what a file has from a place is seen as the file is, if it has the most bytes of a
 -- packet from there or all that is left of the file. So it is enough to refill it when fewer are left in it and the file goes on.

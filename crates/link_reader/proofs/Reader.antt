@@ -14,7 +14,7 @@ use prog.Wp.{Heap}
 use ghost.Atoms.{Atoms, sem}
 use contract.Lifetimes.{Lfts}
 use types.Kit.{Given, ‵, _⊛_, given, _$_, _∵_, !, qed, by, move, drop, use1, split, fsplit, fjoin, learn, frame, done}
-use denote.RattleType.{RattleType, owns}
+use denote.RattleType.{RattleType, Denots, Valss, owns}
 use denote.Laws.{Is}
 use denote.Plain.{uint-makes}
 use denote.Builtin.{u8, usize}
@@ -71,7 +71,7 @@ abbrev pub readerOf : RefT (List ℕ) → ℕ → LinkReader
 readerOf s at = record { bytes = s; at = at }
 
 module _ {M : Type 1} (𝓤 : URA M) (H : Heap 𝓤) (A : Atoms 𝓤) (W : Given 𝓤 H A) (κ : Lft) where
-  abbrev OwnSlice : RefT (List ℕ) → Fml
+  abbrev pub OwnSlice : RefT (List ℕ) → Fml
   OwnSlice s = Slice κ .own s (valueOf s ∷ [])
 
   -- what a slice owns gives what a reader of it owns, and is kept
@@ -83,22 +83,43 @@ module _ {M : Type 1} (𝓤 : URA M) (H : Heap 𝓤) (A : Atoms 𝓤) (W : Given
       nothing ! $ owned ! usize (Is usize) (uint-makes 𝓤 H A W w64) at _ (refl, fits) $ fjoin ! $ move ! (1 ∷ 0 ∷ []) $ fjoin ! $
       use1 W (‵ (OwnOf 𝓤 H A W κ (readerOf s at))) (own-shut 𝓤 H A W (D (κ, tt)) (L (κ, tt)) (s, (at, tt))) $ frame ! $ done !
 
-  -- two slices and a place in each, beside a value that can be had twice: what they own gives what two readers and that value own, and is kept
-  module _ (s : RefT (List ℕ)) (m : ℕ) (t : RefT (List ℕ)) (n : ℕ) (X : RattleType) (x : X .Denot) (v : Val)
-      (twice : ent 𝓤 (sem 𝓤 H A (X .own x (v ∷ []))) (sep 𝓤 (sem 𝓤 H A (X .own x (v ∷ []))) (sem 𝓤 H A (X .own x (v ∷ []))))) where
-    abbrev pub Lent : Fml
-    Lent = owns (Slice κ ∷ usize ∷ Slice κ ∷ usize ∷ X ∷ []) (s, (m, (t, (n, (x, tt))))) (valueOf s ∷ [], (vint w64 m ∷ [], (valueOf t ∷ [], (vint w64 n ∷ [], (v ∷ [], tt)))))
+  -- two slices and a place in each, beside values that can be had twice: what they own gives what two readers and those values own, and is kept
+  module _ (s : RefT (List ℕ)) (m : ℕ) (t : RefT (List ℕ)) (n : ℕ) (Xs : List RattleType) (xs : Denots Xs) (vs : Valss Xs) where
+    abbrev pub LentBeside : Fml
+    LentBeside = owns (Slice κ ∷ usize ∷ Slice κ ∷ usize ∷ Xs) (s, (m, (t, (n, xs)))) (valueOf s ∷ [], (vint w64 m ∷ [], (valueOf t ∷ [], (vint w64 n ∷ [], vs))))
 
-    abbrev pub Readers : Fml
-    Readers = owns (B (κ, tt) ∷ B (κ, tt) ∷ X ∷ []) (readerOf s m, (readerOf t n, (x, tt))) (T′.lowered (readerOf s m) ∷ [], (T′.lowered (readerOf t n) ∷ [], (v ∷ [], tt)))
+    abbrev pub ReadersBeside : Fml
+    ReadersBeside = owns (B (κ, tt) ∷ B (κ, tt) ∷ Xs) (readerOf s m, (readerOf t n, xs)) (T′.lowered (readerOf s m) ∷ [], (T′.lowered (readerOf t n) ∷ [], vs))
 
-    pub readers : m < 2 ^ 64 → n < 2 ^ 64 → ent 𝓤 (sem 𝓤 H A Lent) (sep 𝓤 (sem 𝓤 H A Readers) (sem 𝓤 H A Lent))
-    readers fm fn =
-        qed W (‵ Lent ∷ []) ∵
-        fsplit ! $ move ! (1 ∷ []) $ fsplit ! $ move ! (1 ∷ []) $ fsplit ! $ move ! (1 ∷ []) $ fsplit ! $ move ! (1 ∷ []) $ fsplit ! $ move ! (1 ∷ []) $ drop ! $
-        -- [x; n; t; m; s]: the readers' parameters from the last to the first
-        use1 W (‵ (X .own x (v ∷ [])) ⊛ ‵ (X .own x (v ∷ []))) twice $ split ! $ nothing ! $ move ! (1 ∷ 0 ∷ []) $ fjoin ! $
+    pub readers-beside : ent 𝓤 (sem 𝓤 H A (owns Xs xs vs)) (sep 𝓤 (sem 𝓤 H A (owns Xs xs vs)) (sem 𝓤 H A (owns Xs xs vs))) → m < 2 ^ 64 → n < 2 ^ 64
+        → ent 𝓤 (sem 𝓤 H A LentBeside) (sep 𝓤 (sem 𝓤 H A ReadersBeside) (sem 𝓤 H A LentBeside))
+    readers-beside twice fm fn =
+        qed W (‵ LentBeside ∷ []) ∵
+        fsplit ! $ move ! (1 ∷ []) $ fsplit ! $ move ! (1 ∷ []) $ fsplit ! $ move ! (1 ∷ []) $ fsplit ! $ move ! (1 ∷ []) $
+        -- [xs; n; t; m; s]: the readers' parameters from the last to the first
+        use1 W (‵ (owns Xs xs vs) ⊛ ‵ (owns Xs xs vs)) twice $ split ! $
         move ! (3 ∷ []) $ use1 W (‵ (OwnOf 𝓤 H A W κ (readerOf t n)) ⊛ ‵ (OwnSlice t)) (made t n fn) $ split ! $ move ! (0 ∷ 2 ∷ []) $ fjoin ! $
         move ! (5 ∷ []) $ use1 W (‵ (OwnOf 𝓤 H A W κ (readerOf s m)) ⊛ ‵ (OwnSlice s)) (made s m fm) $ split ! $ move ! (0 ∷ 2 ∷ []) $ fjoin ! $ frame ! $
-        -- [s; t; x; n; m]
-        nothing ! $ move ! (3 ∷ 0 ∷ []) $ fjoin ! $ move ! (3 ∷ 0 ∷ []) $ fjoin ! $ move ! (2 ∷ 0 ∷ []) $ fjoin ! $ move ! (2 ∷ 0 ∷ []) $ fjoin ! $ move ! (1 ∷ 0 ∷ []) $ fjoin ! $ done !
+        -- [s; t; xs; n; m]
+        move ! (3 ∷ 2 ∷ []) $ fjoin ! $ move ! (2 ∷ 0 ∷ []) $ fjoin ! $ move ! (2 ∷ 0 ∷ []) $ fjoin ! $ move ! (1 ∷ 0 ∷ []) $ fjoin ! $ done !
+
+  -- the same beside one value
+  module _ (s : RefT (List ℕ)) (m : ℕ) (t : RefT (List ℕ)) (n : ℕ) (X : RattleType) (x : X .Denot) (v : Val)
+      (twice : ent 𝓤 (sem 𝓤 H A (X .own x (v ∷ []))) (sep 𝓤 (sem 𝓤 H A (X .own x (v ∷ []))) (sem 𝓤 H A (X .own x (v ∷ []))))) where
+    abbrev One : Fml
+    One = owns (X ∷ []) (x, tt) (v ∷ [], tt)
+
+    one-twice : ent 𝓤 (sem 𝓤 H A One) (sep 𝓤 (sem 𝓤 H A One) (sem 𝓤 H A One))
+    one-twice =
+        qed W (‵ One ∷ []) ∵
+        fsplit ! $ move ! (1 ∷ []) $ drop ! $ use1 W (‵ (X .own x (v ∷ [])) ⊛ ‵ (X .own x (v ∷ []))) twice $ split ! $
+        nothing ! $ move ! (1 ∷ 0 ∷ []) $ fjoin ! $ frame ! $ nothing ! $ move ! (1 ∷ 0 ∷ []) $ fjoin ! $ done !
+
+    abbrev pub Lent : Fml
+    Lent = LentBeside s m t n (X ∷ []) (x, tt) (v ∷ [], tt)
+
+    abbrev pub Readers : Fml
+    Readers = ReadersBeside s m t n (X ∷ []) (x, tt) (v ∷ [], tt)
+
+    pub readers : m < 2 ^ 64 → n < 2 ^ 64 → ent 𝓤 (sem 𝓤 H A Lent) (sep 𝓤 (sem 𝓤 H A Readers) (sem 𝓤 H A Lent))
+    readers fm fn = readers-beside s m t n (X ∷ []) (x, tt) (v ∷ [], tt) one-twice fm fn

@@ -11,16 +11,24 @@ pub struct LinkReader<'a> {
     pub at: usize,
 }
 
-// LINK-READER: one step over two readers.
-pub fn take_from<'a>(normal: LinkReader<'a>, redundant: LinkReader<'a>, state: State) -> Taken
+// LINK-READER: one step over two readers, by the lent list of callers and our own id.
+pub fn take_from<'a>(
+    normal: LinkReader<'a>,
+    redundant: LinkReader<'a>,
+    callers: &'a [u8],
+    ours: u32,
+    state: State,
+) -> Taken
     ensures { λ r. ⌜ (let n = normal .entry in let m = redundant .entry in
-        r ≡ takenOf (now (n .bytes)) (n .at) (now (m .bytes)) (m .at) state) ⌝ }
+        r ≡ takenOf (now (n .bytes)) (n .at) (now (m .bytes)) (m .at) (now (callers .entry)) ours state) ⌝ }
 {
     links::take(
         normal.bytes,
         normal.at,
         redundant.bytes,
         redundant.at,
+        callers,
+        ours,
         state,
     )
 }
@@ -43,9 +51,12 @@ pub fn take_by_readers<'a>(
     normal_at: usize,
     redundant: &'a [u8],
     redundant_at: usize,
+    callers: &'a [u8],
+    ours: u32,
     state: State,
 ) -> Taken
-    ensures { λ r. ⌜ r ≡ takenOf (now (normal .entry)) «normal_at» (now (redundant .entry)) «redundant_at» state ⌝ }
+    ensures { λ r. ⌜ r ≡ takenOf (now (normal .entry)) «normal_at» (now (redundant .entry)) «redundant_at»
+        (now (callers .entry)) ours state ⌝ }
 {
     take_from(
         LinkReader {
@@ -56,6 +67,8 @@ pub fn take_by_readers<'a>(
             bytes: redundant,
             at: redundant_at,
         },
+        callers,
+        ours,
         state,
     )
 }

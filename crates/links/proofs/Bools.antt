@@ -28,6 +28,12 @@ pub second-false : (a b : Bool) → (a && b) ≡ false → a ≡ true → b ≡ 
 second-false true b e f = e
 second-false false b e f = absurd (false≢true f)
 
+-- of three, the third does not where the first two do
+pub third-false : (a b c : Bool) → (a && b && c) ≡ false → a ≡ true → b ≡ true → c ≡ false
+third-false true true c e f g = e
+third-false true false c e f g = absurd (false≢true g)
+third-false false b c e f g = absurd (false≢true f)
+
 pub not-of-false : (a : Bool) → a ≡ false → not a ≡ true
 not-of-false a e = simp e
 

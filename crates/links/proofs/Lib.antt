@@ -2,5 +2,6 @@
 pub mod Bools
 pub mod Judged
 pub mod LinkRows
+pub mod Callers
 pub mod ClassRows
 pub mod Step

@@ -41,7 +41,7 @@ module _ (normal : Bool) (s : List ℕ) (at : ℕ) (state : State) (rest : Taken
       row-class f = simp (b, l, eq-eqb _ _ c, eq-eqb _ _ f)
 
 -- the rows of class D, of the header and the user data at a place
-pub class-at : (normal : Bool) (s : List ℕ) (at : ℕ) (state : State) (header : Header) (userData : List ℕ) → header ≡ packetHeaderAt s at
-    → userData ≡ userDataAt s at
-    → classDRows normal at header userData state ≡ classDRows normal at (packetHeaderAt s at) (userDataAt s at) state
-class-at normal s at state header userData h u = cc
+pub class-at : (normal : Bool) (s : List ℕ) (at : ℕ) (callers : List ℕ) (ours : ℕ) (state : State) (header : Header) (userData : List ℕ)
+    → header ≡ packetHeaderAt s at → userData ≡ userDataAt s at
+    → classDRows normal at header userData callers ours state ≡ classDRows normal at (packetHeaderAt s at) (userDataAt s at) callers ours state
+class-at normal s at callers ours state header userData h u = cc

@@ -23,33 +23,33 @@ redundant-up state e = go (state .«normal_up») refl
     go true u = simp u
     go false u = simp (u, e)
 
-module _ (normal : List ℕ) (normalAt : ℕ) (redundant : List ℕ) (redundantAt : ℕ) (state : State) where
+module _ (normal : List ℕ) (normalAt : ℕ) (redundant : List ℕ) (redundantAt : ℕ) (callers : List ℕ) (ours : ℕ) (state : State) where
   pub at-normal : held (state .«normal_up») normal normalAt ≡ true
-      → rowsOf true true normal normalAt state ≡ takenOf normal normalAt redundant redundantAt state
+      → rowsOf true true normal normalAt callers ours state ≡ takenOf normal normalAt redundant redundantAt callers ours state
   unfolding takenOf
   at-normal e = simp e
 
   -- not at the normal link
   module _ (n : held (state .«normal_up») normal normalAt ≡ false) where
-    pub past-normal : rowsOf (held (state .«redundant_up») redundant redundantAt) false redundant redundantAt state
-        ≡ takenOf normal normalAt redundant redundantAt state
+    pub past-normal : rowsOf (held (state .«redundant_up») redundant redundantAt) false redundant redundantAt callers ours state
+        ≡ takenOf normal normalAt redundant redundantAt callers ours state
     unfolding takenOf
     past-normal = simp n
 
     pub at-redundant : held (state .«redundant_up») redundant redundantAt ≡ true
-        → rowsOf true false redundant redundantAt state ≡ takenOf normal normalAt redundant redundantAt state
+        → rowsOf true false redundant redundantAt callers ours state ≡ takenOf normal normalAt redundant redundantAt callers ours state
     unfolding takenOf
     at-redundant e = simp (n, e)
 
-    pub at-308 : bothDown state ≡ true → nothingChanges 308 state ≡ takenOf normal normalAt redundant redundantAt state
+    pub at-308 : bothDown state ≡ true → nothingChanges 308 state ≡ takenOf normal normalAt redundant redundantAt callers ours state
     at-308 b =
         row-308 (held (state .«redundant_up») redundant redundantAt) false redundant redundantAt state
-        (classDRows false redundantAt (packetHeaderAt redundant redundantAt) (userDataAt redundant redundantAt) state) b
+        (classDRows false redundantAt (packetHeaderAt redundant redundantAt) (userDataAt redundant redundantAt) callers ours state) b
         ∙ past-normal
 
     pub at-301 : held (state .«redundant_up») redundant redundantAt ≡ false → bothDown state ≡ false
-        → nothingChanges 301 state ≡ takenOf normal normalAt redundant redundantAt state
+        → nothingChanges 301 state ≡ takenOf normal normalAt redundant redundantAt callers ours state
     at-301 e b =
         row-301 (held (state .«redundant_up») redundant redundantAt) false redundant redundantAt state
-        (classDRows false redundantAt (packetHeaderAt redundant redundantAt) (userDataAt redundant redundantAt) state) b e
+        (classDRows false redundantAt (packetHeaderAt redundant redundantAt) (userDataAt redundant redundantAt) callers ours state) b e
         ∙ past-normal

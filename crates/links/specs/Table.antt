@@ -1,5 +1,6 @@
 -- The table of a step, its rows in LINK-ORDER, each with what follows (specs/Taken).
--- LINK-308, LINK-301, LINK-302, LINK-303, LINK-304 are `linkRows`; LINK-305, LINK-309, LINK-306, LINK-307, LINK-0 are `classDRows`.
+-- LINK-308, LINK-301, LINK-302, LINK-303, LINK-304 are `linkRows`; LINK-305, LINK-309, LINK-310, LINK-306, LINK-307, LINK-0 are
+-- `classDRows`.
 -- Assumes nothing.
 use Prim.Native.Nat.{ℕ, _+_}
 use mathlib.Core.Bool.{Bool, true, false, not, cond, _||_, _&&_}
@@ -16,6 +17,7 @@ use Rattle.packet.specs.declared.Header.{Header}
 use Rattle.links.specs.declared.State.{State}
 use Rattle.links.specs.declared.Taken.{Taken}
 use Rattle.links.specs.Taken.{nothingChanges, linkDown, dropped, handedUp}
+use Rattle.links.specs.Callers.{notAllowed}
 
 -- LINK-302: the length of the packet at a place, seen as soon as its two bytes are there
 abbrev pub lengthAt : List ℕ → ℕ → ℕ
@@ -65,12 +67,14 @@ linkRows found normal s at state rest =
     when (not (eqb (packetHeaderAt s at .flag) (flagOf normal))) answer linkDown 304 normal state else
     rest
 
--- LINK-305, LINK-309, LINK-306, LINK-307, LINK-0: the rows of class D, in LINK-ORDER, of the packet at a place with its header and its
--- user data. d is of later packets: before the first there is no number last handed up (LINK-FIRST).
-unfoldable pub classDRows : Bool → ℕ → Header → List ℕ → State → Taken
-classDRows normal at header userData state =
+-- LINK-305, LINK-309, LINK-310, LINK-306, LINK-307, LINK-0: the rows of class D, in LINK-ORDER, of the packet at a place with its header
+-- and its user data, by the list of callers and our own id. d is of later packets: before the first there is no number last handed up
+-- (LINK-FIRST).
+unfoldable pub classDRows : Bool → ℕ → Header → List ℕ → List ℕ → ℕ → State → Taken
+classDRows normal at header userData callers ours state =
     when (not (inClassD (header .kind))) answer dropped 305 normal header state else
     when (state .first && notOpening (state .responder) header userData) answer dropped 309 normal header state else
+    when (state .first && state .responder && notAllowed callers ours userData) answer dropped 310 normal header state else
     when (not (state .first) && notLater (header .kind) (distanceOf (header .number) (state .last)))
     answer dropped 306 normal header state else
     when (not (state .first) && tooFar (state .strict) (distanceOf (header .number) (state .last)))
@@ -78,14 +82,15 @@ classDRows normal at header userData state =
     handedUp normal at header state
 
 -- LINK-ORDER: all rows, of the link looked at
-abbrev pub rowsOf : Bool → Bool → List ℕ → ℕ → State → Taken
-rowsOf found normal s at state = linkRows found normal s at state (classDRows normal at (packetHeaderAt s at) (userDataAt s at) state)
+abbrev pub rowsOf : Bool → Bool → List ℕ → ℕ → List ℕ → ℕ → State → Taken
+rowsOf found normal s at callers ours state =
+    linkRows found normal s at state (classDRows normal at (packetHeaderAt s at) (userDataAt s at) callers ours state)
 
 -- LINK-LOOK: at the normal link first, and where that has nothing to judge at the redundant one
-unfoldable pub takenOf : List ℕ → ℕ → List ℕ → ℕ → State → Taken
-takenOf normal normalAt redundant redundantAt state =
-    when (held (state .«normal_up») normal normalAt) answer rowsOf true true normal normalAt state else
-    rowsOf (held (state .«redundant_up») redundant redundantAt) false redundant redundantAt state
+unfoldable pub takenOf : List ℕ → ℕ → List ℕ → ℕ → List ℕ → ℕ → State → Taken
+takenOf normal normalAt redundant redundantAt callers ours state =
+    when (held (state .«normal_up») normal normalAt) answer rowsOf true true normal normalAt callers ours state else
+    rowsOf (held (state .«redundant_up») redundant redundantAt) false redundant redundantAt callers ours state
 
 -- LINK-MADE: the part of a slice that starts there and has so many bytes; nothing where it does not lie within
 abbrev pub partOf : List ℕ → ℕ → ℕ → List ℕ

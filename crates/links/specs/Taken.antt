@@ -63,7 +63,7 @@ nothingChanges answer state = emptyPart answer true 0 state
 abbrev pub linkDown : ℕ → Bool → State → Taken
 linkDown answer normal state = emptyPart answer normal 0 (downOf normal state)
 
--- LINK-305, LINK-309, LINK-306, LINK-307: used and dropped; LINK-USED: as many bytes as the packet has
+-- LINK-305, LINK-309, LINK-310, LINK-306, LINK-307: used and dropped; LINK-USED: as many bytes as the packet has
 abbrev pub dropped : ℕ → Bool → Header → State → Taken
 dropped answer normal header state = emptyPart answer normal (packetSize (header .length)) state
 

@@ -1,12 +1,15 @@
-// Taking one packet from two links: the table LINK-308 .. LINK-0 over two lent slices, a place in each, and a state by value.
+// Taking one packet from two links: the table LINK-308 .. LINK-0 over two lent slices, a place in each, a list of callers and a state.
 ghost use mathlib.Core.Path.{_≡_};
 ghost use mathlib.Core.Bool.{true, false};
 ghost use mathlib.Core.List.{List};
 ghost use Prim.Native.Nat.{ℕ, _+_, _^_, _≤_, _<_};
+ghost use lib.ListN.{length};
+ghost use Rattle.field.specs.Row.{widthOf};
 ghost use Rattle.packet.specs.Sizes.{packetHeaderSize, leastLength};
-ghost use Rattle.packet_types.specs.Types.{inClassD};
+ghost use Rattle.packet_types.specs.Types.{au1Begins, callerOf, calledOf, inClassD};
 ghost use Rattle.links.specs.Taken.{freshState, emptyPart, linkDown, dropped, handedUp};
 ghost use Rattle.links.specs.Place.{partPlace, userDataPlace};
+ghost use Rattle.links.specs.Callers.{listed, notAllowed};
 ghost use Rattle.links.specs.Table.{lengthFault, judgeable, held, bothDown, openingOf, notOpening, notLater, tooFar};
 ghost use Rattle.links.specs.Table.{classDRows, rowsOf, takenOf, partOf, userDataOf};
 use number::BEHIND_FROM;
@@ -84,7 +87,7 @@ fn link_down(answer: u16, normal: bool, state: State) -> Taken
     empty_part(answer, normal, 0, after)
 }
 
-// LINK-305, LINK-309, LINK-306, LINK-307: used and dropped.
+// LINK-305, LINK-309, LINK-310, LINK-306, LINK-307: used and dropped.
 fn dropped(answer: u16, normal: bool, header: Header, state: State) -> Taken
     ensures { λ r. ⌜ r ≡ dropped answer normal header state ⌝ }
 {
@@ -182,6 +185,49 @@ fn not_opening(responder: bool, header: Header, data: &[u8]) -> bool
     packet_types::opening_fault(header.kind, header.number, data)
 }
 
+// AU-1: the caller's id of an AU1.
+fn caller_of(data: &[u8]) -> u32
+    requires { ⌜ widthOf au1Begins ≤ length (now «data») ⌝ }
+    ensures { λ r. ⌜ r ≡ callerOf (now («data» .entry)) ⌝ }
+{
+    field::read32(data, packet_types::CALLER_AT)
+}
+
+// AU-1: the called id of an AU1.
+fn called_of(data: &[u8]) -> u32
+    requires { ⌜ widthOf au1Begins ≤ length (now «data») ⌝ }
+    ensures { λ r. ⌜ r ≡ calledOf (now («data» .entry)) ⌝ }
+{
+    field::read32(data, packet_types::CALLED_AT)
+}
+
+// LINK-LIST: an id is on a list, at any of its entries.
+fn listed(id: u32, callers: &[u8]) -> bool
+    ensures { λ r. ⌜ r ≡ listed id (now (callers .entry)) ⌝ }
+{
+    let mut at: usize = 0;
+    while packet_types::ID_SIZE <= callers.len() - at {
+        if field::read32(callers, at) == id {
+            return true;
+        }
+        at += packet_types::ID_SIZE;
+    }
+    false
+}
+
+// LINK-310: calls another than us, or is not on the list.
+fn not_allowed(callers: &[u8], ours: u32, data: &[u8]) -> bool
+    requires { ⌜ widthOf au1Begins ≤ length (now «data») ⌝ }
+    ensures { λ r. ⌜ r ≡ notAllowed (now (callers .entry)) ours (now («data» .entry)) ⌝ }
+{
+    let called = called_of(data);
+    if called != ours {
+        return true;
+    }
+    let on_list = listed(caller_of(data), callers);
+    !on_list
+}
+
 // LINK-306: opens again, repeats or lies behind.
 fn not_later(kind: u8, d: u16) -> bool
     ensures { λ r. ⌜ r ≡ notLater kind d ⌝ }
@@ -205,23 +251,37 @@ fn too_far(strict: bool, d: u16) -> bool
     false
 }
 
-// LINK-309, LINK-0: the rows of class D for the first packet.
-fn first_packet(normal: bool, at: usize, header: Header, data: &[u8], state: State) -> Taken
+// LINK-309, LINK-310, LINK-0: the rows of class D for the first packet. The list judges a responder alone.
+fn first_packet(
+    normal: bool,
+    at: usize,
+    header: Header,
+    data: &[u8],
+    callers: &[u8],
+    ours: u32,
+    state: State,
+) -> Taken
     requires { ⌜ (inClassD (header .kind) ≡ true) × (state .first ≡ true)
         × (leastLength ≤ header .length) × (at + packetHeaderSize < 2 ^ 64) ⌝ }
-    ensures { λ r. ⌜ r ≡ classDRows normal at header (now («data» .entry)) state ⌝ }
+    ensures { λ r. ⌜ r ≡ classDRows normal at header (now («data» .entry)) (now (callers .entry)) ours state ⌝ }
 {
     if not_opening(state.responder, header, data) {
         return dropped(309, normal, header, state);
     }
+    if !state.responder {
+        return handed_up(normal, at, header, state);
+    }
+    if not_allowed(callers, ours, data) {
+        return dropped(310, normal, header, state);
+    }
     handed_up(normal, at, header, state)
 }
 
-// LINK-306, LINK-307, LINK-0: the rows of class D for a later packet. They do not look at its user data.
+// LINK-306, LINK-307, LINK-0: the rows of class D for a later packet. They look neither at its user data nor at the list and our own id.
 fn later_packet(normal: bool, at: usize, header: Header, state: State) -> Taken
     requires { ⌜ (inClassD (header .kind) ≡ true) × (state .first ≡ false)
         × (leastLength ≤ header .length) × (at + packetHeaderSize < 2 ^ 64) ⌝ }
-    ensures { λ r. ⌜ ((userData : List ℕ) → r ≡ classDRows normal at header userData state) ⌝ }
+    ensures { λ r. ⌜ ((userData callers : List ℕ) (ours : ℕ) → r ≡ classDRows normal at header userData callers ours state) ⌝ }
 {
     let d = number::distance_of(header.number, state.last);
     if not_later(header.kind, d) {
@@ -234,23 +294,31 @@ fn later_packet(normal: bool, at: usize, header: Header, state: State) -> Taken
 }
 
 // LINK-305, and the rows of the first packet or of a later one.
-fn class_d_rows(normal: bool, at: usize, header: Header, data: &[u8], state: State) -> Taken
+fn class_d_rows(
+    normal: bool,
+    at: usize,
+    header: Header,
+    data: &[u8],
+    callers: &[u8],
+    ours: u32,
+    state: State,
+) -> Taken
     requires { ⌜ (leastLength ≤ header .length) × (at + packetHeaderSize < 2 ^ 64) ⌝ }
-    ensures { λ r. ⌜ r ≡ classDRows normal at header (now («data» .entry)) state ⌝ }
+    ensures { λ r. ⌜ r ≡ classDRows normal at header (now («data» .entry)) (now (callers .entry)) ours state ⌝ }
 {
     if !packet_types::in_class_d(header.kind) {
         return dropped(305, normal, header, state);
     }
     if state.first {
-        return first_packet(normal, at, header, data, state);
+        return first_packet(normal, at, header, data, callers, ours, state);
     }
     later_packet(normal, at, header, state)
 }
 
 // LINK-302, LINK-303, LINK-304, and the rows of the packet's class: of the link looked at.
-fn rows_of(normal: bool, s: &[u8], at: usize, state: State) -> Taken
+fn rows_of(normal: bool, s: &[u8], at: usize, callers: &[u8], ours: u32, state: State) -> Taken
     requires { ⌜ (bothDown state ≡ false) × (judgeable (now s) at ≡ true) ⌝ }
-    ensures { λ r. ⌜ r ≡ rowsOf true normal (now (s .entry)) at state ⌝ }
+    ensures { λ r. ⌜ r ≡ rowsOf true normal (now (s .entry)) at (now (callers .entry)) ours state ⌝ }
 {
     if length_fault(field::read16(s, at)) {
         return link_down(302, normal, state);
@@ -267,6 +335,8 @@ fn rows_of(normal: bool, s: &[u8], at: usize, state: State) -> Taken
         at,
         header,
         packet::user_data_at(s, at, header.length),
+        callers,
+        ours,
         state,
     )
 }
@@ -277,15 +347,18 @@ pub fn take<'a>(
     normal_at: usize,
     redundant: &'a [u8],
     redundant_at: usize,
+    callers: &'a [u8],
+    ours: u32,
     state: State,
 ) -> Taken
-    ensures { λ r. ⌜ r ≡ takenOf (now (normal .entry)) «normal_at» (now (redundant .entry)) «redundant_at» state ⌝ }
+    ensures { λ r. ⌜ r ≡ takenOf (now (normal .entry)) «normal_at» (now (redundant .entry)) «redundant_at»
+        (now (callers .entry)) ours state ⌝ }
 {
     if held(state.normal_up, normal, normal_at) {
-        return rows_of(true, normal, normal_at, state);
+        return rows_of(true, normal, normal_at, callers, ours, state);
     }
     if held(state.redundant_up, redundant, redundant_at) {
-        return rows_of(false, redundant, redundant_at, state);
+        return rows_of(false, redundant, redundant_at, callers, ours, state);
     }
     if both_down(state) {
         return empty_part(308, true, 0, state);

@@ -13,7 +13,7 @@ use Rattle.rules.specs.Rows.{when_answer_else_}
 use Rattle.field.specs.Field.{fieldOf}
 use Rattle.packet_types.specs.Types.{au1, au2, dataPacket, releasePacket, turnToRedundant, turnToNormal, lifeOfIdle, lifeOfActive}
 use Rattle.packet_types.specs.Types.{rows, kindOf, classesOf, linksOf, leastOf, hasUserDataOf, classAtOf, noRow, rowIn, typeRow}
-use Rattle.packet_types.specs.Types.{hasClassD, hasLink, unwantedData, numberedZero, opens, openingFault}
+use Rattle.packet_types.specs.Types.{callerOf, calledOf, hasClassD, hasLink, unwantedData, numberedZero, opens, openingFault}
 
 -- ---- a look through a table from its last row to its first
 module _ (kind : ℕ) (table : List (List ℕ)) (i : ℕ) (some : 0 < i) (inside : i ≤ length table) where
@@ -135,3 +135,8 @@ au1-fault number userData = refl
 pub au2-fault : (number : ℕ) (userData : List ℕ) → openingFault au2 number userData ≡ (not (eqb number 0) || ltb (length userData) 4 || false)
 unfolding openingFault leastOf
 au2-fault number userData = refl
+
+-- and against AU-1: the caller's id has the first 4 bytes, the called id the 4 behind them
+pub au1-ids : (userData : List ℕ) → (callerOf userData ≡ fieldOf userData 0 4) × (calledOf userData ≡ fieldOf userData 4 4)
+unfolding callerOf calledOf
+au1-ids userData = (refl, refl)

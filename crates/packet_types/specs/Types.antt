@@ -7,7 +7,7 @@ use lib.Dec.{eqb, ltb}
 use lib.ListN.{length, getD, take}
 use Rattle.rules.specs.Rows.{when_answer_else_}
 use Rattle.field.specs.Field.{fieldOf}
-use Rattle.field.specs.Row.{widthOf}
+use Rattle.field.specs.Row.{fieldsOf, widthOf}
 
 -- ---- the types, by their numbers
 
@@ -56,6 +56,13 @@ au2Begins = 4 ∷ []
 -- AU-1: the class of class D
 abbrev pub classD : ℕ
 classD = 0x03
+
+-- AU-1: in these fields the caller's id stands first, and the called id behind it:
+unfoldable pub callerOf : List ℕ → ℕ
+callerOf userData = getD (fieldsOf au1Begins userData 0) 0 0
+
+unfoldable pub calledOf : List ℕ → ℕ
+calledOf userData = getD (fieldsOf au1Begins userData 0) 1 0
 
 -- ---- the table
 

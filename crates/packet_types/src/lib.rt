@@ -20,6 +20,13 @@ const LIFE_OF_IDLE: u8 = 254;
 
 const LIFE_OF_ACTIVE: u8 = 255;
 
+// AU-1: where the caller's id and the called id stand, and how many bytes each has.
+pub const CALLER_AT: usize = 0;
+
+pub const CALLED_AT: usize = 4;
+
+pub const ID_SIZE: usize = 4;
+
 // AU-1: the class of class D, and where the class stands behind two ids.
 pub const CLASS_D: u8 = 0x03;
 

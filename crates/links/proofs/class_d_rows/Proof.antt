@@ -15,24 +15,26 @@ dropped-requires c κs = search needs
 
 returns : tie.Need-returns
 returns c =
-    let a = c .before .before .before .before .args in
+    let a = c .before .before .before .before .before .args in
     c .dropped .ensures
-    ∙ row-305 (a .normal) (a .at) (a .header) (a .data .now) (a .state)
+    ∙ row-305 (a .normal) (a .at) (a .header) (a .data .now) (a .callers .now) (a .ours) (a .state)
     (sym (c .before .before .in-class-d .ensures) ∙ not-true _ (c .before .if1 .taken))
 
 first-packet-requires : tie.Need-first-packet-requires
 first-packet-requires c κs =
-    ((sym (c .before .before .in-class-d .ensures) ∙ not-false _ (c .before .if1 .left)), c .if2 .taken, c .before .before .before .before .pre .0, c .before .before .before .before .pre .1)
+    ((sym (c .before .before .in-class-d .ensures) ∙ not-false _ (c .before .if1 .left)), c .if2 .taken, c .before .before .before .before .before .pre .0, c .before .before .before .before .before .pre .1)
 
 returns-2 : tie.Need-returns-2
 returns-2 c = search needs
 
 later-packet-requires : tie.Need-later-packet-requires
 later-packet-requires c κs =
-    ((sym (c .before .before .in-class-d .ensures) ∙ not-false _ (c .before .if1 .left)), c .if2 .left, c .before .before .before .before .pre .0, c .before .before .before .before .pre .1)
+    ((sym (c .before .before .in-class-d .ensures) ∙ not-false _ (c .before .if1 .left)), c .if2 .left, c .before .before .before .before .before .pre .0, c .before .before .before .before .before .pre .1)
 
 returns-3 : tie.Need-returns-3
-returns-3 c = c .later-packet .ensures (c .before .before .before .before .before .args .data .now)
+returns-3 c =
+    let a = c .before .before .before .before .before .before .args in
+    c .later-packet .ensures (a .data .now) (a .callers .now) (a .ours)
 
 pub class-d-rows-spec : {M : Type 1} → statement M
 class-d-rows-spec =

@@ -16,10 +16,10 @@ dropped-requires : tie.Need-dropped-requires
 dropped-requires c κs = search needs
 
 returns : tie.Need-returns
-returns c = λ userData.
+returns c = λ userData callers ours.
     let a = c .before .before .before .before .args in
     c .dropped .ensures
-    ∙ row-306 (a .normal) (a .at) (a .header) userData (a .state)
+    ∙ row-306 (a .normal) (a .at) (a .header) userData callers ours (a .state)
     (c .before .before .before .before .pre .0) (c .before .before .before .before .pre .1) (c .before .before .before .distance-of .result) (c .before .before .before .distance-of .ensures)
     (sym (c .before .before .not-later .ensures) ∙ c .before .if1 .taken)
 
@@ -30,10 +30,10 @@ dropped-requires-2 : tie.Need-dropped-requires-2
 dropped-requires-2 c κs = search needs
 
 returns-2 : tie.Need-returns-2
-returns-2 c = λ userData.
+returns-2 c = λ userData callers ours.
     let a = c .before .before .before .before .before .before .args in
     c .dropped2 .ensures
-    ∙ row-307 (a .normal) (a .at) (a .header) userData (a .state)
+    ∙ row-307 (a .normal) (a .at) (a .header) userData callers ours (a .state)
     (c .before .before .before .before .before .before .pre .0) (c .before .before .before .before .before .before .pre .1) (c .before .before .before .before .before .distance-of .result) (c .before .before .before .before .before .distance-of .ensures)
     (sym (c .before .before .before .before .not-later .ensures) ∙ c .before .before .before .if1 .left)
     (sym (c .before .before .too-far .ensures) ∙ c .before .if2 .taken)
@@ -42,10 +42,10 @@ handed-up-requires : tie.Need-handed-up-requires
 handed-up-requires c κs = search needs
 
 returns-3 : tie.Need-returns-3
-returns-3 c = λ userData.
+returns-3 c = λ userData callers ours.
     let a = c .before .before .before .before .before .before .args in
     c .handed-up .ensures
-    ∙ row-later (a .normal) (a .at) (a .header) userData (a .state)
+    ∙ row-later (a .normal) (a .at) (a .header) userData callers ours (a .state)
     (c .before .before .before .before .before .before .pre .0) (c .before .before .before .before .before .before .pre .1) (c .before .before .before .before .before .distance-of .result) (c .before .before .before .before .before .distance-of .ensures)
     (sym (c .before .before .before .before .not-later .ensures) ∙ c .before .before .before .if1 .left)
     (sym (c .before .before .too-far .ensures) ∙ c .before .if2 .left)

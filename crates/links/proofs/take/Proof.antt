@@ -12,15 +12,15 @@ held-requires c κs = search needs
 
 rows-of-requires : tie.Need-rows-of-requires
 rows-of-requires c κs =
-    let a = c .before .before .before .before .args in
+    let a = c .before .before .before .before .before .args in
     let b = both-true _ _ (sym (c .before .held .ensures) ∙ c .if1 .taken) in
     (normal-up (a .state) (b .0), b .1)
 
 returns : tie.Need-returns
 returns c =
-    let a = c .before .before .before .before .before .args in
+    let a = c .before .before .before .before .before .before .args in
     c .rows-of .ensures
-    ∙ at-normal (a .normal .now) (a .normal-at) (a .redundant .now) (a .redundant-at) (a .state)
+    ∙ at-normal (a .normal .now) (a .normal-at) (a .redundant .now) (a .redundant-at) (a .callers .now) (a .ours) (a .state)
     (sym (c .before .before .held .ensures) ∙ c .before .if1 .taken)
 
 held-requires-2 : tie.Need-held-requires-2
@@ -28,15 +28,15 @@ held-requires-2 c κs = search needs
 
 rows-of-requires-2 : tie.Need-rows-of-requires-2
 rows-of-requires-2 c κs =
-    let a = c .before .before .before .before .before .before .args in
+    let a = c .before .before .before .before .before .before .before .args in
     let b = both-true _ _ (sym (c .before .held2 .ensures) ∙ c .if2 .taken) in
     (redundant-up (a .state) (b .0), b .1)
 
 returns-2 : tie.Need-returns-2
 returns-2 c =
-    let a = c .before .before .before .before .before .before .before .args in
+    let a = c .before .before .before .before .before .before .before .before .args in
     c .rows-of2 .ensures
-    ∙ at-redundant (a .normal .now) (a .normal-at) (a .redundant .now) (a .redundant-at) (a .state)
+    ∙ at-redundant (a .normal .now) (a .normal-at) (a .redundant .now) (a .redundant-at) (a .callers .now) (a .ours) (a .state)
     (sym (c .before .before .before .before .held .ensures) ∙ c .before .before .before .if1 .left)
     (sym (c .before .before .held2 .ensures) ∙ c .before .if2 .taken)
 
@@ -48,9 +48,9 @@ empty-part-requires c κs = search needs
 
 returns-3 : tie.Need-returns-3
 returns-3 c =
-    let a = c .before .before .before .before .before .before .before .before .before .args in
+    let a = c .before .before .before .before .before .before .before .before .before .before .args in
     c .empty-part .ensures
-    ∙ at-308 (a .normal .now) (a .normal-at) (a .redundant .now) (a .redundant-at) (a .state)
+    ∙ at-308 (a .normal .now) (a .normal-at) (a .redundant .now) (a .redundant-at) (a .callers .now) (a .ours) (a .state)
     (sym (c .before .before .before .before .before .before .held .ensures) ∙ c .before .before .before .before .before .if1 .left)
     (sym (c .before .before .both-down .ensures) ∙ c .before .if3 .taken)
 
@@ -59,9 +59,9 @@ empty-part-requires-2 c κs = search needs
 
 returns-4 : tie.Need-returns-4
 returns-4 c =
-    let a = c .before .before .before .before .before .before .before .before .before .args in
+    let a = c .before .before .before .before .before .before .before .before .before .before .args in
     c .empty-part2 .ensures
-    ∙ at-301 (a .normal .now) (a .normal-at) (a .redundant .now) (a .redundant-at) (a .state)
+    ∙ at-301 (a .normal .now) (a .normal-at) (a .redundant .now) (a .redundant-at) (a .callers .now) (a .ours) (a .state)
     (sym (c .before .before .before .before .before .before .held .ensures) ∙ c .before .before .before .before .before .if1 .left)
     (sym (c .before .before .before .before .held2 .ensures) ∙ c .before .before .before .if2 .left)
     (sym (c .before .before .both-down .ensures) ∙ c .before .if3 .left)
