@@ -8,9 +8,10 @@ use Rattle.text.specs.Line.{mostNumber, mostBytesWord}
 use Rattle.recording.specs.Printed.{mostLine}
 use Rattle.link_lines.specs.declared.one_step.Step.{Step}
 
--- flags, last number, normal place, redundant place, normal size, redundant size; the bytes of both links follow them
+-- flags, last number, normal place, redundant place, our own id, normal size, redundant size, size of the list of callers; the bytes of
+-- both links and the list follow them
 abbrev pub stepWidths : List ℕ
-stepWidths = 1 ∷ 2 ∷ 4 ∷ 4 ∷ 2 ∷ 2 ∷ []
+stepWidths = 1 ∷ 2 ∷ 4 ∷ 4 ∷ 4 ∷ 2 ∷ 2 ∷ 2 ∷ []
 
 -- how many bytes these fields take
 abbrev pub stepFieldsSize : ℕ
@@ -24,8 +25,10 @@ stepFrom fields =
       last = getD fields 1 0;
       «normal_place» = getD fields 2 0;
       «redundant_place» = getD fields 3 0;
-      «normal_size» = getD fields 4 0;
-      «redundant_size» = getD fields 5 0;
+      ours = getD fields 4 0;
+      «normal_size» = getD fields 5 0;
+      «redundant_size» = getD fields 6 0;
+      «callers_size» = getD fields 7 0;
     }
 
 -- the most bytes of a link

@@ -1,6 +1,7 @@
 // One step over two links, at a state and places of its own, and its six lines: three as the links are lent, and the same by readers.
 // A step in the file: flags 1 (1 normal link up, 2 redundant link up, 4 responder, 8 strict, 16 first packet), last number 2, normal
-// place 4, redundant place 4, normal size 2, redundant size 2, the bytes of both links.
+// place 4, redundant place 4, our own id 4, normal size 2, redundant size 2, size of the list of callers 2, the bytes of both links, the
+// list.
 ghost use mathlib.Core.Path.{_≡_};
 ghost use Prim.Native.Nat.{_+_, _≤_, _<_};
 ghost use lib.ListN.{length};
@@ -12,9 +13,9 @@ use links::Taken;
 use text::Done;
 
 // The bytes of the fields before the links' own.
-const FIELDS_SIZE: usize = 15;
+const FIELDS_SIZE: usize = 21;
 
-// The most bytes of a link.
+// The most bytes of a link, and of the list.
 const MOST_LINK: usize = 7168;
 
 // The flags.
@@ -34,8 +35,10 @@ struct Step {
     last: u16,
     normal_place: u32,
     redundant_place: u32,
+    ours: u32,
     normal_size: u16,
     redundant_size: u16,
+    callers_size: u16,
 }
 
 // Whether a flag is set.
@@ -55,8 +58,10 @@ fn step_from(s: &[u8]) -> Step
         last: field::read16(s, 1),
         normal_place: field::read32(s, 3),
         redundant_place: field::read32(s, 7),
-        normal_size: field::read16(s, 11),
-        redundant_size: field::read16(s, 13),
+        ours: field::read32(s, 11),
+        normal_size: field::read16(s, 15),
+        redundant_size: field::read16(s, 17),
+        callers_size: field::read16(s, 19),
     }
 }
 
@@ -145,6 +150,7 @@ fn put_lent<'a>(
     step: Step,
     normal: &'a [u8],
     redundant: &'a [u8],
+    callers: &'a [u8],
 ) -> usize
     requires { ⌜ NoLonger (now normal) (now redundant) × (at + mostTakenText mostLink ≤ length (now out)) ⌝ }
     ensures { λ r. ⌜ r ≤ at + mostTakenText mostLink ⌝ }
@@ -156,6 +162,8 @@ fn put_lent<'a>(
         normal_place,
         redundant,
         redundant_place,
+        callers,
+        step.ours,
         step.state(),
     );
     put_taken(out, at, taken, data_of(normal, redundant, taken))
@@ -182,6 +190,7 @@ fn put_by_readers<'a>(
     step: Step,
     normal: &'a [u8],
     redundant: &'a [u8],
+    callers: &'a [u8],
 ) -> usize
     requires { ⌜ NoLonger (now normal) (now redundant) × (at + mostTakenText mostLink ≤ length (now out)) ⌝ }
     ensures { λ r. ⌜ r ≤ at + mostTakenText mostLink ⌝ }
@@ -193,6 +202,8 @@ fn put_by_readers<'a>(
         normal_place,
         redundant,
         redundant_place,
+        callers,
+        step.ours,
         step.state(),
     );
     let data = data_by_readers(normal, normal_place, redundant, redundant_place, taken);
@@ -200,12 +211,18 @@ fn put_by_readers<'a>(
 }
 
 // The step in both ways, and its lines.
-fn put_step<'a>(out: &mut [u8], step: Step, normal: &'a [u8], redundant: &'a [u8]) -> usize
+fn put_step<'a>(
+    out: &mut [u8],
+    step: Step,
+    normal: &'a [u8],
+    redundant: &'a [u8],
+    callers: &'a [u8],
+) -> usize
     requires { ⌜ NoLonger (now normal) (now redundant) × (mostStepText ≤ length (now out)) ⌝ }
     ensures { λ r. ⌜ r ≤ mostStepText ⌝ }
 {
-    let after_lent = put_lent(out, 0, step, normal, redundant);
-    put_by_readers(out, after_lent, step, normal, redundant)
+    let after_lent = put_lent(out, 0, step, normal, redundant, callers);
+    put_by_readers(out, after_lent, step, normal, redundant, callers)
 }
 
 // The step at the front of s, if it is there whole.
@@ -219,19 +236,30 @@ pub fn step_at(s: &[u8], out: &mut [u8]) -> Done
     let step = step_from(s);
     let normal = step.normal_size as usize;
     let redundant = step.redundant_size as usize;
+    let callers = step.callers_size as usize;
     if MOST_LINK < normal {
         return Done::not_whole();
     }
     if MOST_LINK < redundant {
         return Done::not_whole();
     }
+    if MOST_LINK < callers {
+        return Done::not_whole();
+    }
     let middle = FIELDS_SIZE + normal;
-    let end = middle + redundant;
+    let list = middle + redundant;
+    let end = list + callers;
     if s.len() < end {
         return Done::not_whole();
     }
     Done {
-        next: put_step(out, step, &s[FIELDS_SIZE..middle], &s[middle..end]),
+        next: put_step(
+            out,
+            step,
+            &s[FIELDS_SIZE..middle],
+            &s[middle..list],
+            &s[list..end],
+        ),
         used: end,
     }
 }

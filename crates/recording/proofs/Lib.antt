@@ -2,3 +2,4 @@ pub mod Windows
 pub mod Steps
 pub mod Whole
 pub mod Turns
+pub mod Ids

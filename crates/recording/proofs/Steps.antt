@@ -36,7 +36,7 @@ goes-alike : {A : Type 0} (b : Bool) (x : A) {y z : A} → (b ≡ false → y �
 goes-alike true x same = refl
 goes-alike false x same = same refl
 
-module _ (normal redundant : List ℕ) where
+module _ (normal redundant callers : List ℕ) (ours : ℕ) where
   -- bytes used of one of two links
   used-up : (link : Bool) (n r used : ℕ) → cond link n r + used ≤ length (cond link normal redundant) → 0 < used
       → (length normal - cond link (n + used) n) + (length redundant - cond link r (r + used)) < (length normal - n) + (length redundant - r)
@@ -49,31 +49,31 @@ module _ (normal redundant : List ℕ) where
   none-used false n r used h = omega arith
 
   -- after a step but the last fewer are left
-  fewer-left : (x : Reach) → lastAnswer (takenFrom normal redundant x .answer) ≡ false
-      → mostSteps normal redundant (reachedBy (takenFrom normal redundant x) x) < mostSteps normal redundant x
+  fewer-left : (x : Reach) → lastAnswer (takenFrom normal redundant callers ours x .answer) ≡ false
+      → mostSteps normal redundant callers ours (reachedBy (takenFrom normal redundant callers ours x) x) < mostSteps normal redundant callers ours x
   fewer-left x e =
-      let t = takenFrom normal redundant x in
+      let t = takenFrom normal redundant callers ours x in
       ⊎-elim (λ bytes. omega (arith, used-up (t .normal) (x .normal) (x .redundant) (t .used) (bytes .1) (bytes .0), bytes .2))
       (λ down. omega (arith, none-used (t .normal) (x .normal) (x .redundant) (t .used) (down .0), down .1))
-      (goes-forward normal (x .normal) redundant (x .redundant) (x .state) (not-308 (t .answer) e) (not-301 (t .answer) e))
+      (goes-forward normal (x .normal) redundant (x .redundant) callers ours (x .state) (not-308 (t .answer) e) (not-301 (t .answer) e))
 
   -- more steps than are left change nothing
-  enough : (n m : ℕ) (x : Reach) → mostSteps normal redundant x < n → mostSteps normal redundant x < m → cutIn normal redundant n x ≡ cutIn normal redundant m x
+  enough : (n m : ℕ) (x : Reach) → mostSteps normal redundant callers ours x < n → mostSteps normal redundant callers ours x < m → cutIn normal redundant callers ours n x ≡ cutIn normal redundant callers ours m x
   unfolding cutIn
   enough zero m x h g = let none : ⊥ = omega arith in absurd none
   enough (suc n) zero x h g = let none : ⊥ = omega arith in absurd none
   enough (suc n) (suc m) x h g =
-      let t = takenFrom normal redundant x in
+      let t = takenFrom normal redundant callers ours x in
       ap (λ (l : List ℕ). lineOf t ++ l)
       (goes-alike (lastAnswer (t .answer)) (endOf (reachedBy t x .handedUp)) (λ e.
       let fewer = fewer-left x e in
       enough n m (reachedBy t x) (omega arith) (omega arith)))
 
-  pub goes-on : GoesOn normal redundant
+  pub goes-on : GoesOn normal redundant callers ours
   unfolding cutIn
   goes-on x =
-      let t = takenFrom normal redundant x in
+      let t = takenFrom normal redundant callers ours x in
       ap (λ (l : List ℕ). lineOf t ++ l)
       (goes-alike (lastAnswer (t .answer)) (endOf (reachedBy t x .handedUp)) (λ e.
       let fewer = fewer-left x e in
-      enough (mostSteps normal redundant x) (suc (mostSteps normal redundant (reachedBy t x))) (reachedBy t x) (omega arith) (omega arith)))
+      enough (mostSteps normal redundant callers ours x) (suc (mostSteps normal redundant callers ours (reachedBy t x))) (reachedBy t x) (omega arith) (omega arith)))

@@ -52,15 +52,15 @@ topped-reads before w after r size up = by (lowOf mostPacket w) refl
     }
 
 -- before the first turn: the out buffer holds the heading
-pub cutting-first : (state : State) (normal redundant : List ℕ) {p : Progress} {out : List ℕ} {at : ℕ} → p ≡ startOf state → take at out ≡ heading
-    → Cutting state normal redundant p out at
-cutting-first state normal redundant {p} {out} {at} start headed = record {
+pub cutting-first : (callers : List ℕ) (ours : ℕ) (state : State) (normal redundant : List ℕ) {p : Progress} {out : List ℕ} {at : ℕ} → p ≡ startOf state → take at out ≡ heading
+    → Cutting callers ours state normal redundant p out at
+cutting-first callers ours state normal redundant {p} {out} {at} start headed = record {
   normalRead = [];
   redundantRead = [];
   written = [];
   cuts = λ normalRest redundantRest _ _.
-      subst (λ (l : List ℕ). Cuts state normalRest redundantRest normal redundant p normalRest redundantRest l) (sym headed)
-      (subst (λ (q : Progress). Cuts state normalRest redundantRest normal redundant q normalRest redundantRest heading) (sym start) (starts normal redundant));
+      subst (λ (l : List ℕ). Cuts callers ours state normalRest redundantRest normal redundant p normalRest redundantRest l) (sym headed)
+      (subst (λ (q : Progress). Cuts callers ours state normalRest redundantRest normal redundant q normalRest redundantRest heading) (sym start) (starts normal redundant));
 }
 
 -- a step changes nothing of a window but where it starts
@@ -73,17 +73,17 @@ ended-stays taken p = by (taken .normal) refl
     by false e = rw e (refl, refl)
 
 -- a turn carries the cutting on
-module _ (state : State) (normal redundant : List ℕ) (p : Progress) (out : List ℕ) (at : ℕ) (normalAfter redundantAfter outAfter : List ℕ) (a : Advanced)
-    (turn : TurnOf normal redundant p out at normalAfter redundantAfter outAfter a) where
+module _ (callers : List ℕ) (ours : ℕ) (state : State) (normal redundant : List ℕ) (p : Progress) (out : List ℕ) (at : ℕ) (normalAfter redundantAfter outAfter : List ℕ) (a : Advanced)
+    (turn : TurnOf normal redundant callers ours p out at normalAfter redundantAfter outAfter a) where
   -- the progress with its windows topped up, and the step over them
   abbrev lent : Progress
   lent = windowed (turn .first .window) (turn .second .window) p
 
   abbrev taken : Taken
-  taken = takenAt normalAfter redundantAfter lent
+  taken = takenAt normalAfter redundantAfter callers ours lent
 
   pub turn-cuts : length normalAfter ≡ length normal → length redundantAfter ≡ length redundant → a .next ≤ length out → p .last ≡ false
-      → Cutting state normal redundant p out at → Cutting state normalAfter redundantAfter (a .progress) outAfter (a .next)
+      → Cutting callers ours state normal redundant p out at → Cutting callers ours state normalAfter redundantAfter (a .progress) outAfter (a .next)
   turn-cuts normalSize redundantSize within goes was =
       let n = topped-reads normal (p .normal) normalAfter (turn .first) normalSize (turn .up .up-normal) in
       let r = topped-reads redundant (p .redundant) redundantAfter (turn .second) redundantSize (turn .up .up-redundant) in
@@ -99,32 +99,32 @@ module _ (state : State) (normal redundant : List ℕ) (p : Progress) (out : Lis
             let run =
             steps (reads (was .cuts (n .read ++ normalRest) (r .read ++ redundantRest) (n .none normalRest allNormal) (r .none redundantRest allRedundant)) (n .on normalRest allNormal) (r .on redundantRest allRedundant))
             goes (turn .up .high-normal) (turn .up .high-redundant) in
-            subst (λ (l : List ℕ). Cuts state l (was .redundantRead ++ r .read ++ redundantRest) normalAfter redundantAfter (a .progress) normalRest redundantRest (place .before ++ take (a .next) outAfter))
+            subst (λ (l : List ℕ). Cuts callers ours state l (was .redundantRead ++ r .read ++ redundantRest) normalAfter redundantAfter (a .progress) normalRest redundantRest (place .before ++ take (a .next) outAfter))
             (sym (append-assoc (was .normalRead) (n .read) normalRest))
-            (subst (λ (l : List ℕ). Cuts state (was .normalRead ++ (n .read ++ normalRest)) l normalAfter redundantAfter (a .progress) normalRest redundantRest (place .before ++ take (a .next) outAfter))
+            (subst (λ (l : List ℕ). Cuts callers ours state (was .normalRead ++ (n .read ++ normalRest)) l normalAfter redundantAfter (a .progress) normalRest redundantRest (place .before ++ take (a .next) outAfter))
             (sym (append-assoc (was .redundantRead) (r .read) redundantRest))
-            (subst (λ (q : Progress). Cuts state (was .normalRead ++ (n .read ++ normalRest)) (was .redundantRead ++ (r .read ++ redundantRest)) normalAfter redundantAfter q normalRest redundantRest (place .before ++ take (a .next) outAfter))
+            (subst (λ (q : Progress). Cuts callers ours state (was .normalRead ++ (n .read ++ normalRest)) (was .redundantRead ++ (r .read ++ redundantRest)) normalAfter redundantAfter q normalRest redundantRest (place .before ++ take (a .next) outAfter))
             (sym (turn .advanced .progress))
-            (subst (λ (l : List ℕ). Cuts state (was .normalRead ++ (n .read ++ normalRest)) (was .redundantRead ++ (r .read ++ redundantRest)) normalAfter redundantAfter (steppedOf taken lent) normalRest redundantRest l)
+            (subst (λ (l : List ℕ). Cuts callers ours state (was .normalRead ++ (n .read ++ normalRest)) (was .redundantRead ++ (r .read ++ redundantRest)) normalAfter redundantAfter (steppedOf taken lent) normalRest redundantRest l)
             (sym (put-behind place (turn .advanced .put) within)) run)));
       }
 
 -- after the last step only the last line is left to print
-pub printed-to-the-end : (state : State) (normal redundant : List ℕ) (p : Progress) (out : List ℕ) (at : ℕ) → Cutting state normal redundant p out at → p .last ≡ true
-    → PrintedToTheEnd state out at (p .«handed_up»)
-printed-to-the-end state normal redundant p out at was last = record {
+pub printed-to-the-end : (callers : List ℕ) (ours : ℕ) (state : State) (normal redundant : List ℕ) (p : Progress) (out : List ℕ) (at : ℕ) → Cutting callers ours state normal redundant p out at → p .last ≡ true
+    → PrintedToTheEnd callers ours state out at (p .«handed_up»)
+printed-to-the-end callers ours state normal redundant p out at was last = record {
   normalRead = was .normalRead;
   redundantRead = was .redundantRead;
   written = was .written;
   whole =
-      pieces-as-whole state (was .normalRead ++ []) (was .redundantRead ++ []) normal redundant p [] [] (was .written ++ take at out) (was .cuts [] [] (λ _. refl) (λ _. refl)) last
-      ∙ ap (λ (l : List ℕ). cutOf state l (was .redundantRead ++ [])) (append-nil (was .normalRead)) ∙ ap (cutOf state (was .normalRead)) (append-nil (was .redundantRead));
+      pieces-as-whole callers ours state (was .normalRead ++ []) (was .redundantRead ++ []) normal redundant p [] [] (was .written ++ take at out) (was .cuts [] [] (λ _. refl) (λ _. refl)) last
+      ∙ ap (λ (l : List ℕ). cutOf callers ours state l (was .redundantRead ++ [])) (append-nil (was .normalRead)) ∙ ap (cutOf callers ours state (was .normalRead)) (append-nil (was .redundantRead));
 }
 
 -- once the last line is put, all is printed
-pub printed-whole : (state : State) (out : List ℕ) (at count : ℕ) (after : List ℕ) (next : ℕ) → PrintedToTheEnd state out at count
-    → PutAt out (placeOf mostLine (length out) at) (endOf count) after next → next ≤ length out → PrintedWhole state after next
-printed-whole state out at count after next was put within =
+pub printed-whole : (callers : List ℕ) (ours : ℕ) (state : State) (out : List ℕ) (at count : ℕ) (after : List ℕ) (next : ℕ) → PrintedToTheEnd callers ours state out at count
+    → PutAt out (placeOf mostLine (length out) at) (endOf count) after next → next ≤ length out → PrintedWhole callers ours state after next
+printed-whole callers ours state out at count after next was put within =
     let place = placed mostLine (was .written) out at in
     record {
       normalRead = was .normalRead;

@@ -63,16 +63,16 @@ other-follows : (named : Bool) (file : List ℕ) (place : ℕ) (buffer : List �
 other-follows true file place buffer w toRead used h f u = f
 other-follows false file place buffer w toRead used h f u = follows-used file place buffer w toRead used h f (u refl)
 
-module _ (normalFile : List ℕ) (normalPlace : ℕ) (redundantFile : List ℕ) (redundantPlace : ℕ) (normal redundant : List ℕ) (p : Progress) where
-  pub steps-as-whole : StepsAsWhole normalFile normalPlace redundantFile redundantPlace normal redundant p
+module _ (normalFile : List ℕ) (normalPlace : ℕ) (redundantFile : List ℕ) (redundantPlace : ℕ) (normal redundant : List ℕ) (callers : List ℕ) (ours : ℕ) (p : Progress) where
+  pub steps-as-whole : StepsAsWhole normalFile normalPlace redundantFile redundantPlace normal redundant callers ours p
   unfolding steppedOf
   steps-as-whole normalToRead redundantToRead lies n r nl rl =
-      let t = takenAt normal redundant p in
-      let u = uses normal redundant p lies refl in
-      let there = reached normalFile normalPlace redundantFile redundantPlace normal redundant p in
+      let t = takenAt normal redundant callers ours p in
+      let u = uses normal redundant callers ours p lies refl in
+      let there = reached normalFile normalPlace redundantFile redundantPlace normal redundant callers ours p in
       let alike =
       sees-no-more-than-a-packet (take (p .normal .to) normal) (p .normal .from) (take (p .redundant .to) redundant) (p .redundant .from)
-      normalFile normalPlace redundantFile redundantPlace (p .state)
+      normalFile normalPlace redundantFile redundantPlace callers ours (p .state)
       (seen-as-file normalFile normalPlace normal (p .normal) normalToRead (lies .0) n nl)
       (seen-as-file redundantFile redundantPlace redundant (p .redundant) redundantToRead (lies .1) r rl) .same-taken in (
         ap lineOf alike,
@@ -102,18 +102,18 @@ reads-within buffer w toRead _ _ _ lies (refills after r refilled size rest more
 
 -- A progress from which the rest of a text is printed: its windows follow the files from two places, and what is printed from there on, or after the last step
 -- the last line, is all that is left of the text.
-record Prints (normalFile redundantFile normal redundant : List ℕ) (p : Progress) (normalToRead redundantToRead printed text : List ℕ) : Type 0 where
+record Prints (normalFile redundantFile callers : List ℕ) (ours : ℕ) (normal redundant : List ℕ) (p : Progress) (normalToRead redundantToRead printed text : List ℕ) : Type 0 where
   normalPlace : ℕ
   redundantPlace : ℕ
   lies : Lies p (length normal) (length redundant)
   follows-normal : Follows normalFile normalPlace normal (p .normal) normalToRead
   follows-redundant : Follows redundantFile redundantPlace redundant (p .redundant) redundantToRead
-  rest : printed ++ (when p .last answer endOf (p .«handed_up») else cutFrom normalFile redundantFile (reachOf normalPlace redundantPlace p)) ≡ text
+  rest : printed ++ (when p .last answer endOf (p .«handed_up») else cutFrom normalFile redundantFile callers ours (reachOf normalPlace redundantPlace p)) ≡ text
 
-module _ (state : State) (normalFile redundantFile : List ℕ) where
+module _ (callers : List ℕ) (ours : ℕ) (state : State) (normalFile redundantFile : List ℕ) where
   prints : {normal redundant : List ℕ} {p : Progress} {normalToRead redundantToRead printed : List ℕ}
-      → Cuts state normalFile redundantFile normal redundant p normalToRead redundantToRead printed
-      → Prints normalFile redundantFile normal redundant p normalToRead redundantToRead printed (cutOf state normalFile redundantFile)
+      → Cuts callers ours state normalFile redundantFile normal redundant p normalToRead redundantToRead printed
+      → Prints normalFile redundantFile callers ours normal redundant p normalToRead redundantToRead printed (cutOf callers ours state normalFile redundantFile)
   unfolding steppedOf
   prints (starts normal redundant) = record {
     normalPlace = 0;
@@ -139,27 +139,27 @@ module _ (state : State) (normalFile redundantFile : List ℕ) where
   prints (steps {normal} {redundant} {p} {normalToRead} {redundantToRead} {printed} run goes highNormal highRedundant) =
       let was = prints run in
       let x = reachOf (was .normalPlace) (was .redundantPlace) p in
-      let t = takenFrom normalFile redundantFile x in
-      let after = steppedOf (takenAt normal redundant p) p in
-      let whole = steps-as-whole normalFile (was .normalPlace) redundantFile (was .redundantPlace) normal redundant p normalToRead redundantToRead (was .lies) (was .follows-normal) (was .follows-redundant) highNormal highRedundant in
-      let used = uses normal redundant p (was .lies) refl in
+      let t = takenFrom normalFile redundantFile callers ours x in
+      let after = steppedOf (takenAt normal redundant callers ours p) p in
+      let whole = steps-as-whole normalFile (was .normalPlace) redundantFile (was .redundantPlace) normal redundant callers ours p normalToRead redundantToRead (was .lies) (was .follows-normal) (was .follows-redundant) highNormal highRedundant in
+      let used = uses normal redundant callers ours p (was .lies) refl in
       record {
         normalPlace = reachedBy t x .normal;
         redundantPlace = reachedBy t x .redundant;
-        lies = lies-after (length normal) (length redundant) p after (takenAt normal redundant p) used (was .lies) refl .0;
+        lies = lies-after (length normal) (length redundant) p after (takenAt normal redundant callers ours p) used (was .lies) refl .0;
         follows-normal = whole .3;
         follows-redundant = whole .4;
         rest =
-            append-assoc printed (lineOf (takenAt normal redundant p)) (when after .last answer endOf (after .«handed_up») else cutFrom normalFile redundantFile (reachOf (reachedBy t x .normal) (reachedBy t x .redundant) after))
+            append-assoc printed (lineOf (takenAt normal redundant callers ours p)) (when after .last answer endOf (after .«handed_up») else cutFrom normalFile redundantFile callers ours (reachOf (reachedBy t x .normal) (reachedBy t x .redundant) after))
             ∙ ap (λ (l : List ℕ). printed ++ l)
-            (ap₂ (λ (l : List ℕ) (y : Reach). l ++ (when after .last answer endOf (y .handedUp) else cutFrom normalFile redundantFile y)) (whole .0) (whole .2)
-            ∙ ap (λ (b : Bool). lineOf t ++ (when b answer endOf (reachedBy t x .handedUp) else cutFrom normalFile redundantFile (reachedBy t x))) (whole .1)
-            ∙ sym (goes-on normalFile redundantFile x))
-            ∙ ap (λ (b : Bool). printed ++ (when b answer endOf (p .«handed_up») else cutFrom normalFile redundantFile x)) (sym goes) ∙ was .rest;
+            (ap₂ (λ (l : List ℕ) (y : Reach). l ++ (when after .last answer endOf (y .handedUp) else cutFrom normalFile redundantFile callers ours y)) (whole .0) (whole .2)
+            ∙ ap (λ (b : Bool). lineOf t ++ (when b answer endOf (reachedBy t x .handedUp) else cutFrom normalFile redundantFile callers ours (reachedBy t x))) (whole .1)
+            ∙ sym (goes-on normalFile redundantFile callers ours x))
+            ∙ ap (λ (b : Bool). printed ++ (when b answer endOf (p .«handed_up») else cutFrom normalFile redundantFile callers ours x)) (sym goes) ∙ was .rest;
       }
 
 pub pieces-as-whole : PiecesAsWhole
-pieces-as-whole state normalFile redundantFile normal redundant p normalToRead redundantToRead printed run last =
-    let was = prints state normalFile redundantFile run in
-    ap (λ (b : Bool). printed ++ (when b answer endOf (p .«handed_up») else cutFrom normalFile redundantFile (reachOf (was .normalPlace) (was .redundantPlace) p))) (sym last)
+pieces-as-whole callers ours state normalFile redundantFile normal redundant p normalToRead redundantToRead printed run last =
+    let was = prints callers ours state normalFile redundantFile run in
+    ap (λ (b : Bool). printed ++ (when b answer endOf (p .«handed_up») else cutFrom normalFile redundantFile callers ours (reachOf (was .normalPlace) (was .redundantPlace) p))) (sym last)
     ∙ was .rest

@@ -26,16 +26,16 @@ place-within : (normal : Bool) (n r : ℕ) (ns rs : List ℕ) → n ≤ length n
 place-within true n r ns rs h g = h
 place-within false n r ns rs h g = g
 
-pub uses : (normal redundant : List ℕ) (p : Progress) {taken : Taken} → Lies p (length normal) (length redundant) → taken ≡ takenAt normal redundant p
+pub uses : (normal redundant callers : List ℕ) (ours : ℕ) (p : Progress) {taken : Taken} → Lies p (length normal) (length redundant) → taken ≡ takenAt normal redundant callers ours p
     → UsesNoMore taken p
-uses normal redundant p l e =
-    let t = takenAt normal redundant p in
+uses normal redundant callers ours p l e =
+    let t = takenAt normal redundant callers ours p in
     let ns = take (p .normal .to) normal in
     let rs = take (p .redundant .to) redundant in
     let nl = length-take-le (p .normal .to) normal (l .0 .1) in
     let rl = length-take-le (p .redundant .to) redundant (l .1 .1) in
     let within = place-within (t .normal) (p .normal .from) (p .redundant .from) ns rs (omega (arith, l .0 .0)) (omega (arith, l .1 .0)) in
-    let lent = uses-no-more-than-lent ns (p .normal .from) rs (p .redundant .from) (p .state) within in
+    let lent = uses-no-more-than-lent ns (p .normal .from) rs (p .redundant .from) callers ours (p .state) within in
     let each = by-link (t .normal) (p .normal .from) (p .redundant .from) (t .used) ns rs lent in
     subst (λ (t : Taken). UsesNoMore t p) (sym e) (λ n. omega (arith, each .0 n), λ r. omega (arith, each .1 r))
 
@@ -59,7 +59,7 @@ lies-after ns rs p after taken u l e =
     (within-after (taken .normal) (taken .used) (p .normal) (p .redundant) ns rs u (l .0) (l .1), counts-one (p .«handed_up») (eqb (taken .answer) 0))
 
 pub advances-agree : AdvancesAgree
-advances-agree normal redundant p before at after after′ r r′ one other =
+advances-agree normal redundant callers ours p before at after after′ r r′ one other =
     let next = one .put .place ∙ sym (other .put .place) in
     let progress = one .progress ∙ sym (other .progress) in
     let same : r ≡ r′ = ap₂ (λ (q : Progress) (n : ℕ). record { progress = q; next = n }) progress next in

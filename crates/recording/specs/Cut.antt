@@ -35,10 +35,10 @@ reachedBy taken x = record {
   handedUp = countedOf (x .handedUp) (taken .answer);
 }
 
-module _ (normal redundant : List ℕ) where
+module _ (normal redundant callers : List ℕ) (ours : ℕ) where
   -- the step over the whole files
   abbrev pub takenFrom : Reach → Taken
-  takenFrom x = takenOf normal (x .normal) redundant (x .redundant) (x .state)
+  takenFrom x = takenOf normal (x .normal) redundant (x .redundant) callers ours (x .state)
 
   -- what is printed in so many steps at the most: the line of each, and behind that of a step which answers 301 or 308 the last line
   unfoldable pub cutIn : ℕ → Reach → List ℕ
@@ -62,6 +62,6 @@ module _ (normal redundant : List ℕ) where
       when lastAnswer (takenFrom x .answer) answer endOf (reachedBy (takenFrom x) x .handedUp) else
       cutFrom (reachedBy (takenFrom x) x))
 
--- what `cut` prints for two files, with the state that the steps start from
-abbrev pub cutOf : State → List ℕ → List ℕ → List ℕ
-cutOf state normal redundant = heading ++ cutFrom normal redundant (startFrom state)
+-- what `cut` prints for two files, with the list of callers, our own id and the state that the steps start from
+abbrev pub cutOf : List ℕ → ℕ → State → List ℕ → List ℕ → List ℕ
+cutOf callers ours state normal redundant = heading ++ cutFrom normal redundant callers ours (startFrom state)

@@ -2,3 +2,4 @@ pub mod Printed
 pub mod Progress
 pub mod Cut
 pub mod Whole
+pub mod Ids

@@ -5,10 +5,10 @@ use mathlib.Core.Path.{_≡_}
 use mathlib.Core.Bool.{Bool, true, false, cond, _||_}
 use mathlib.Core.List.{List}
 use lib.Dec.{eqb}
-use lib.ListN.{take}
+use lib.ListN.{length, take}
 use Rattle.window.specs.declared.Window.{Window}
 use Rattle.window.specs.Window.{emptyWindow, Within, usedOf}
-use Rattle.links.specs.Table.{takenOf}
+use Rattle.links.specs.Table.{takenOf, userDataOf}
 use Rattle.links.specs.declared.State.{State}
 use Rattle.links.specs.declared.Taken.{Taken}
 use Rattle.text.specs.Text.{PutAt}
@@ -30,10 +30,10 @@ windowed normal redundant p = record {
   last = p .last;
 }
 
--- what one step takes of the two windows
-abbrev pub takenAt : List ℕ → List ℕ → Progress → Taken
-takenAt normal redundant p =
-    takenOf (take (p .normal .to) normal) (p .normal .from) (take (p .redundant .to) redundant) (p .redundant .from) (p .state)
+-- what one step takes of the two windows, by the list of callers and our own id
+abbrev pub takenAt : List ℕ → List ℕ → List ℕ → ℕ → Progress → Taken
+takenAt normal redundant callers ours p =
+    takenOf (take (p .normal .to) normal) (p .normal .from) (take (p .redundant .to) redundant) (p .redundant .from) callers ours (p .state)
 
 -- CUT-2: the first 301 or 308 is the last answer
 unfoldable pub lastAnswer : ℕ → Bool
@@ -60,17 +60,24 @@ UsesNoMore taken p =
     (taken .normal ≡ true → p .normal .from + taken .used ≤ p .normal .to)
     × (taken .normal ≡ false → p .redundant .from + taken .used ≤ p .redundant .to)
 
+-- the part of a window that an answer hands up has as many bytes as it says
+abbrev pub CountsItsData : List ℕ → List ℕ → Progress → Taken → Type 0
+CountsItsData normal redundant p taken =
+    length (userDataOf (take (p .normal .to) normal) (take (p .redundant .to) redundant) taken) ≡ taken .size
+
 -- the windows lie within their buffers
 abbrev pub Lies : Progress → ℕ → ℕ → Type 0
 Lies p normal redundant = Within (p .normal) normal × Within (p .redundant) redundant
 
 -- One step over the two windows, with its line put into an out buffer at a place.
-pub record AdvancedTo (normal redundant : List ℕ) (p : Progress) (before : List ℕ) (at : ℕ) (after : List ℕ) (r : Advanced) : Type 0 where
-  pub progress : r .progress ≡ steppedOf (takenAt normal redundant p) p
-  pub put : PutAt before at (lineOf (takenAt normal redundant p)) after (r .next)
+pub record AdvancedTo (normal redundant callers : List ℕ) (ours : ℕ) (p : Progress) (before : List ℕ) (at : ℕ) (after : List ℕ)
+    (r : Advanced) : Type 0 where
+  pub progress : r .progress ≡ steppedOf (takenAt normal redundant callers ours p) p
+  pub put : PutAt before at (lineOf (takenAt normal redundant callers ours p)) after (r .next)
 
 -- Two results that one input allows agree, in the progress, the place and every byte.
 abbrev pub AdvancesAgree : Type 0
 AdvancesAgree =
-    (normal redundant : List ℕ) (p : Progress) (before : List ℕ) (at : ℕ) (after after′ : List ℕ) (r r′ : Advanced)
-    → AdvancedTo normal redundant p before at after r → AdvancedTo normal redundant p before at after′ r′ → (after ≡ after′) × (r ≡ r′)
+    (normal redundant callers : List ℕ) (ours : ℕ) (p : Progress) (before : List ℕ) (at : ℕ) (after after′ : List ℕ) (r r′ : Advanced)
+    → AdvancedTo normal redundant callers ours p before at after r → AdvancedTo normal redundant callers ours p before at after′ r′
+    → (after ≡ after′) × (r ≡ r′)

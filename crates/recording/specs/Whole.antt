@@ -1,6 +1,6 @@
 -- CUT-3, the promise of the windows: however two files are read into them, what is printed is what `cut` prints for the whole files.
 -- Assumes nothing.
-use Prim.Native.Nat.{ℕ}
+use Prim.Native.Nat.{ℕ, _≤_}
 use mathlib.Core.Path.{_≡_}
 use mathlib.Core.Bool.{true, false}
 use mathlib.Core.List.{List, [], _++_}
@@ -30,17 +30,17 @@ abbrev pub reachOf : ℕ → ℕ → Progress → Reach
 reachOf normal redundant p = record { normal = normal; redundant = redundant; state = p .state; handedUp = p .«handed_up» }
 
 module _ (normalFile : List ℕ) (normalPlace : ℕ) (redundantFile : List ℕ) (redundantPlace : ℕ) (normal redundant : List ℕ)
-    (p : Progress) where
+    (callers : List ℕ) (ours : ℕ) (p : Progress) where
   -- the step over the whole files, and the reach after it:
   abbrev pub whole : Taken
-  whole = takenFrom normalFile redundantFile (reachOf normalPlace redundantPlace p)
+  whole = takenFrom normalFile redundantFile callers ours (reachOf normalPlace redundantPlace p)
 
   abbrev pub reached : Reach
   reached = reachedBy whole (reachOf normalPlace redundantPlace p)
 
   -- the progress after the step over the windows
   abbrev pub after : Progress
-  after = steppedOf (takenAt normal redundant p) p
+  after = steppedOf (takenAt normal redundant callers ours p) p
 
   -- CUT-3: windows that follow two files and are not low: the line of their step is that of the step over the whole files, and so are the
   -- progress after it and the places from which the windows follow the files then.
@@ -50,7 +50,7 @@ module _ (normalFile : List ℕ) (normalPlace : ℕ) (redundantFile : List ℕ) 
       → Follows normalFile normalPlace normal (p .normal) normalToRead
       → Follows redundantFile redundantPlace redundant (p .redundant) redundantToRead
       → lowOf mostPacket (p .normal) ≡ false → lowOf mostPacket (p .redundant) ≡ false
-      → (lineOf (takenAt normal redundant p) ≡ lineOf whole) × (after .last ≡ lastAnswer (whole .answer))
+      → (lineOf (takenAt normal redundant callers ours p) ≡ lineOf whole) × (after .last ≡ lastAnswer (whole .answer))
       × (reachOf (reached .normal) (reached .redundant) after ≡ reached)
       × Follows normalFile (reached .normal) normal (after .normal) normalToRead
       × Follows redundantFile (reached .redundant) redundant (after .redundant) redundantToRead
@@ -73,27 +73,29 @@ ReadsFollow =
 -- A cutting of two files through their windows: the buffers, the progress with the windows on the bytes at hand, the bytes of each file
 -- that are still to be read, and all that was printed. It starts with the heading. Windows are refilled, or not, in any order and number. A
 -- step is taken over windows that are not low (what `recording::advance` asks), and none after the last.
-pub data Cuts (state : State) (normalFile redundantFile : List ℕ) : List ℕ → List ℕ → Progress → List ℕ → List ℕ → List ℕ → Type 0 where
+pub data Cuts (callers : List ℕ) (ours : ℕ) (state : State) (normalFile redundantFile : List ℕ)
+    : List ℕ → List ℕ → Progress → List ℕ → List ℕ → List ℕ → Type 0 where
   starts : (normal redundant : List ℕ)
-      → Cuts state normalFile redundantFile normal redundant (startOf state) normalFile redundantFile heading
+      → Cuts callers ours state normalFile redundantFile normal redundant (startOf state) normalFile redundantFile heading
   reads : {normal redundant : List ℕ} {p : Progress} {normalToRead redundantToRead printed : List ℕ}
-      → Cuts state normalFile redundantFile normal redundant p normalToRead redundantToRead printed
+      → Cuts callers ours state normalFile redundantFile normal redundant p normalToRead redundantToRead printed
       → {normalAfter redundantAfter : List ℕ} {n r : Window} {normalRest redundantRest : List ℕ}
       → Reads normal (p .normal) normalToRead normalAfter n normalRest
       → Reads redundant (p .redundant) redundantToRead redundantAfter r redundantRest
-      → Cuts state normalFile redundantFile normalAfter redundantAfter (windowed n r p) normalRest redundantRest printed
+      → Cuts callers ours state normalFile redundantFile normalAfter redundantAfter (windowed n r p) normalRest redundantRest printed
   steps : {normal redundant : List ℕ} {p : Progress} {normalToRead redundantToRead printed : List ℕ}
-      → Cuts state normalFile redundantFile normal redundant p normalToRead redundantToRead printed
+      → Cuts callers ours state normalFile redundantFile normal redundant p normalToRead redundantToRead printed
       → p .last ≡ false → lowOf mostPacket (p .normal) ≡ false → lowOf mostPacket (p .redundant) ≡ false
-      → Cuts state normalFile redundantFile normal redundant (steppedOf (takenAt normal redundant p) p) normalToRead redundantToRead
-      (printed ++ lineOf (takenAt normal redundant p))
+      → Cuts callers ours state normalFile redundantFile normal redundant (steppedOf (takenAt normal redundant callers ours p) p)
+      normalToRead redundantToRead (printed ++ lineOf (takenAt normal redundant callers ours p))
 
 -- Where such a cutting has taken its last step, all that was printed, and the last line, are what `cut` prints for the whole files.
 abbrev pub PiecesAsWhole : Type 0
 PiecesAsWhole =
-    (state : State) (normalFile redundantFile normal redundant : List ℕ) (p : Progress) (normalToRead redundantToRead printed : List ℕ)
-    → Cuts state normalFile redundantFile normal redundant p normalToRead redundantToRead printed → p .last ≡ true
-    → printed ++ endOf (p .«handed_up») ≡ cutOf state normalFile redundantFile
+    (callers : List ℕ) (ours : ℕ) (state : State) (normalFile redundantFile normal redundant : List ℕ) (p : Progress)
+    (normalToRead redundantToRead printed : List ℕ)
+    → Cuts callers ours state normalFile redundantFile normal redundant p normalToRead redundantToRead printed → p .last ≡ true
+    → printed ++ endOf (p .«handed_up») ≡ cutOf callers ours state normalFile redundantFile
 
 -- What a program does in turn: windows topped up, a step, its line.
 
@@ -106,36 +108,44 @@ pub record BothToppedUp (normal redundant : List ℕ) (p : Progress) (normalAfte
   pub high-redundant : lowOf mostPacket (second .window) ≡ false
 
 -- One turn: room for a line; both windows topped up; a step over them, with its line put into the out buffer.
-pub record TurnOf (normal redundant : List ℕ) (p : Progress) (out : List ℕ) (at : ℕ) (normalAfter redundantAfter outAfter : List ℕ)
-    (r : Advanced) : Type 0 where
+pub record TurnOf (normal redundant callers : List ℕ) (ours : ℕ) (p : Progress) (out : List ℕ) (at : ℕ)
+    (normalAfter redundantAfter outAfter : List ℕ) (r : Advanced) : Type 0 where
   pub first : Refilled
   pub second : Refilled
   pub up : BothToppedUp normal redundant p normalAfter redundantAfter first second
   pub advanced :
-      AdvancedTo normalAfter redundantAfter (windowed (first .window) (second .window) p) out (placeOf mostLine (length out) at) outAfter r
+      AdvancedTo normalAfter redundantAfter callers ours (windowed (first .window) (second .window) p) out
+      (placeOf mostLine (length out) at) outAfter r
 
 -- Between the turns: the bytes that were read of each file and the text that was written, so that with any bytes that follow, none where a
 -- file has ended, it is the cutting of two files that has printed what was written and what the out buffer holds.
-pub record Cutting (state : State) (normal redundant : List ℕ) (p : Progress) (out : List ℕ) (at : ℕ) : Type 0 where
+pub record Cutting (callers : List ℕ) (ours : ℕ) (state : State) (normal redundant : List ℕ) (p : Progress) (out : List ℕ) (at : ℕ)
+    : Type 0 where
   pub normalRead : List ℕ
   pub redundantRead : List ℕ
   pub written : List ℕ
   pub cuts : (normalRest redundantRest : List ℕ)
       → (p .normal .ended ≡ true → normalRest ≡ []) → (p .redundant .ended ≡ true → redundantRest ≡ [])
-      → Cuts state (normalRead ++ normalRest) (redundantRead ++ redundantRest) normal redundant p normalRest redundantRest
+      → Cuts callers ours state (normalRead ++ normalRest) (redundantRead ++ redundantRest) normal redundant p normalRest redundantRest
       (written ++ take at out)
 
 -- After the last step: what was written, what the out buffer holds and the last line, which counts the packets handed up, are what `cut`
 -- prints for the bytes that were read.
-pub record PrintedToTheEnd (state : State) (out : List ℕ) (at : ℕ) (count : ℕ) : Type 0 where
+pub record PrintedToTheEnd (callers : List ℕ) (ours : ℕ) (state : State) (out : List ℕ) (at : ℕ) (count : ℕ) : Type 0 where
   pub normalRead : List ℕ
   pub redundantRead : List ℕ
   pub written : List ℕ
-  pub whole : written ++ take at out ++ endOf count ≡ cutOf state normalRead redundantRead
+  pub whole : written ++ take at out ++ endOf count ≡ cutOf callers ours state normalRead redundantRead
 
 -- At the end: what was written and what the out buffer holds is what `cut` prints for the bytes that were read.
-pub record PrintedWhole (state : State) (out : List ℕ) (at : ℕ) : Type 0 where
+pub record PrintedWhole (callers : List ℕ) (ours : ℕ) (state : State) (out : List ℕ) (at : ℕ) : Type 0 where
   pub normalRead : List ℕ
   pub redundantRead : List ℕ
   pub written : List ℕ
-  pub whole : written ++ take at out ≡ cutOf state normalRead redundantRead
+  pub whole : written ++ take at out ≡ cutOf callers ours state normalRead redundantRead
+
+-- Before the first turn: each link's buffer has room for a packet and the out buffer for a line, and the out buffer holds the heading.
+abbrev pub Headed : List ℕ → List ℕ → List ℕ → ℕ → Type 0
+Headed normal redundant out at =
+    ((mostPacket ≤ length normal) × (mostPacket ≤ length redundant))
+    × ((at ≤ length out) × (mostLine ≤ length out) × (take at out ≡ heading))

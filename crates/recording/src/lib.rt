@@ -1,4 +1,4 @@
-// Recorded links cut into packets: one step over the windows of two links, and the text that is printed for it.
+// Recorded links cut into packets: one step over the windows of two links, and the text that is printed for it; ids as words.
 ghost use mathlib.Core.Path.{_≡_};
 ghost use mathlib.Core.Bool.{true, false};
 ghost use Prim.Native.Nat.{_+_, _^_, _≤_, _<_};
@@ -8,7 +8,8 @@ ghost use Rattle.window.specs.Window.{lowOf};
 ghost use Rattle.packet.specs.Sizes.{mostPacket};
 ghost use Rattle.recording.specs.Printed.{heading, linkName, handedUpText, lineOf, mostLinkName, mostHandedUp, mostLine};
 ghost use Rattle.recording.specs.Progress.{startOf, windowed, takenAt, lastAnswer, countedOf, steppedOf};
-ghost use Rattle.recording.specs.Progress.{UsesNoMore, Lies, AdvancedTo};
+ghost use Rattle.recording.specs.Ids.{digitValue, idOf};
+ghost use Rattle.recording.specs.Progress.{UsesNoMore, CountsItsData, Lies, AdvancedTo};
 use links::State;
 use links::Taken;
 use window::Window;
@@ -18,6 +19,9 @@ const MOST_LINK_NAME: usize = 9;
 
 pub const MOST_LINE: usize = MOST_LINK_NAME + 5 * text::MOST_NUMBER + 1;
 
+// CUT-5: how many digits an id has.
+const ID_DIGITS: usize = 8;
+
 // The windows of the two links, the state of the steps, how many packets were handed up, and whether the last step answered 301 or 308.
 pub struct Progress {
     pub normal: Window,
@@ -25,6 +29,12 @@ pub struct Progress {
     pub state: State,
     pub handed_up: u64,
     pub last: bool,
+}
+
+// CUT-5: what a word says: an id, where it is right.
+pub struct Id {
+    pub right: bool,
+    pub id: u32,
 }
 
 // The progress after a step, and the place after the line that was put for it.
@@ -116,10 +126,16 @@ pub fn put_line(out: &mut [u8], at: usize, taken: Taken) -> usize
     put_counted(out, at, taken, taken.size)
 }
 
-// One step over the two windows, through a reader of each.
-fn taken_at<'a>(normal: &'a [u8], redundant: &'a [u8], p: Progress) -> Taken
+// One step over the two windows, through a reader of each, by the list of callers and our own id.
+fn taken_at<'a>(
+    normal: &'a [u8],
+    redundant: &'a [u8],
+    callers: &'a [u8],
+    ours: u32,
+    p: Progress,
+) -> Taken
     requires { ⌜ Lies p (length (now normal)) (length (now redundant)) ⌝ }
-    ensures { λ r. ⌜ r ≡ takenAt (now (normal .entry)) (now (redundant .entry)) p ⌝ }
+    ensures { λ r. ⌜ r ≡ takenAt (now (normal .entry)) (now (redundant .entry)) (now (callers .entry)) ours p ⌝ }
 {
     let normal_from = p.normal.from;
     let normal_to = p.normal.to;
@@ -130,14 +146,16 @@ fn taken_at<'a>(normal: &'a [u8], redundant: &'a [u8], p: Progress) -> Taken
         normal_from,
         &redundant[..redundant_to],
         redundant_from,
+        callers,
+        ours,
         p.state,
     )
 }
 
-// How many bytes of user data that step hands up: those of the part that is handed up are counted, of whichever window held the packet.
+// How many bytes of user data a step hands up: those of the part that is handed up are counted, of whichever window held the packet.
 fn count_data<'a>(normal: &'a [u8], redundant: &'a [u8], p: Progress, taken: Taken) -> usize
     requires { ⌜ Lies p (length (now normal)) (length (now redundant)) ⌝ }
-    requires { ⌜ taken ≡ takenAt (now normal) (now redundant) p ⌝ }
+    requires { ⌜ CountsItsData (now normal) (now redundant) p taken ⌝ }
     ensures { λ r. ⌜ r ≡ taken .size ⌝ }
 {
     let normal_place = p.normal.from;
@@ -211,21 +229,75 @@ pub fn advance<'a>(
     redundant: &'a [u8],
     out: &mut [u8],
     at: usize,
+    callers: &'a [u8],
+    ours: u32,
     p: Progress,
 ) -> Advanced
     requires { ⌜ Lies p (length (now normal)) (length (now redundant)) ⌝ }
     requires { ⌜ at + mostLine ≤ length (now out) ⌝ }
     requires { ⌜ (lowOf mostPacket (p .normal) ≡ false) × (lowOf mostPacket (p .redundant) ≡ false) ⌝ }
     requires { ⌜ p .«handed_up» + 1 < 2 ^ 64 ⌝ }
-    ensures { λ r. ⌜ AdvancedTo (now (normal .entry)) (now (redundant .entry)) p (now (out .entry)) at (now (out .exit)) r ⌝ }
+    ensures { λ r. ⌜ AdvancedTo (now (normal .entry)) (now (redundant .entry)) (now (callers .entry)) ours p
+        (now (out .entry)) at (now (out .exit)) r ⌝ }
     ensures { λ r. ⌜ Lies (r .progress) (length (now (normal .entry))) (length (now (redundant .entry)))
         × (r .progress .«handed_up» ≤ p .«handed_up» + 1) × (r .next ≤ at + mostLine) ⌝ }
 {
-    let taken = taken_at(normal, redundant, p);
+    let taken = taken_at(normal, redundant, callers, ours, p);
     let size = count_data(normal, redundant, p, taken);
     let next = put_counted(out, at, taken, size);
     Advanced {
         progress: stepped_of(p, taken),
         next,
     }
+}
+
+// CUT-5: the value of a hexadecimal digit, 16 for any other byte.
+fn digit_value(byte: u8) -> u8
+    ensures { λ r. ⌜ r ≡ digitValue byte ⌝ }
+{
+    if byte < b'0' {
+        return 16;
+    }
+    if byte <= b'9' {
+        return byte - b'0';
+    }
+    if byte < b'A' {
+        return 16;
+    }
+    if byte <= b'F' {
+        return byte - b'A' + 10;
+    }
+    if byte < b'a' {
+        return 16;
+    }
+    if byte <= b'f' {
+        return byte - b'a' + 10;
+    }
+    16
+}
+
+// CUT-5: the id that a word of eight hexadecimal digits says.
+pub fn id_of(word: &[u8]) -> Id
+    ensures { λ r. ⌜ r ≡ idOf (now (word .entry)) ⌝ }
+{
+    if word.len() != ID_DIGITS {
+        return Id {
+            right: false,
+            id: 0,
+        };
+    }
+    let mut id: u32 = 0;
+    let mut i: usize = 0;
+    while i < ID_DIGITS {
+        let value = digit_value(word[i]);
+        if value == 16 {
+            return Id {
+                right: false,
+                id: 0,
+            };
+        }
+        id = id * 16 + value as u32;
+        i += 1;
+    }
+    Id { right: true, id }
 }

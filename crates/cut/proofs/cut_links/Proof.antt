@@ -15,13 +15,13 @@ use Rattle.cut.proofs.cut_links.Statement.{statement}
 use Rattle.cut.proofs.cut_links.Tie as tie
 
 abbrev Inv-loop : tie.InvT-loop
-Inv-loop files normal-name normal₀ redundant-name redundant₀ out₀ place state at₀ p₀ turns₀ normal redundant out at p turns =
+Inv-loop files normal-name normal₀ redundant-name redundant₀ out₀ next callers ours state advanced₀ turns₀ normal redundant out advanced turns =
     (length normal ≡ length normal₀) × (length redundant ≡ length redundant₀) × (length out ≡ length out₀)
-    × Lies p (length normal₀) (length redundant₀) × (at ≤ length out₀) × (p .«handed_up» + turns < 2 ^ 64)
-    × (p .last ≡ false) × Cutting state normal redundant p out at
+    × Lies (advanced .progress) (length normal₀) (length redundant₀) × (advanced .next ≤ length out₀) × (advanced .progress .«handed_up» + turns < 2 ^ 64)
+    × (advanced .progress .last ≡ false) × Cutting callers ours state normal redundant (advanced .progress) out (advanced .next)
 
 abbrev μ-loop : tie.MeasureT-loop
-μ-loop files normal-name normal₀ redundant-name redundant₀ out₀ place state at₀ p₀ turns₀ normal redundant out at p turns =
+μ-loop files normal-name normal₀ redundant-name redundant₀ out₀ next callers ours state advanced₀ turns₀ normal redundant out advanced turns =
     turns
 
 start-requires : tie.Need-start-requires Inv-loop μ-loop
@@ -30,7 +30,7 @@ start-requires c κs = tt
 loop-holds : tie.Need-loop-holds Inv-loop μ-loop
 loop-holds c =
     let first = c .start .ensures in
-    let start = c .before .before .before .before .before .before in
+    let start = c .before .before .before .before .before .before .before in
     let a = start .args in (
       refl,
       refl,
@@ -39,13 +39,13 @@ loop-holds c =
       start .pre .1 .0,
       omega (arith, ap (λ (p : Progress). p .«handed_up») first),
       ap (λ (p : Progress). p .last) first,
-      cutting-first (a .state) (a .normal .now) (a .redundant .now) first (start .pre .1 .2),
+      cutting-first (a .callers .now) (a .ours) (a .state) (a .normal .now) (a .redundant .now) first (start .pre .1 .2),
     )
 
 turn-requires : tie.Need-turn-requires Inv-loop μ-loop
 turn-requires c κs =
     let inv = c .before .before .before .before .loop .inv in
-    let pre = c .before .before .before .before .before .before .before .before .before .before .before .pre in
+    let pre = c .before .before .before .before .before .before .before .before .before .before .before .before .pre in
     let lies = inv .3 in (
       ((lies .0 .0, omega (arith, lies .0 .1, inv .0)), (lies .1 .0, omega (arith, lies .1 .1, inv .1))),
       (
@@ -68,9 +68,9 @@ returns c = tt
 
 put-last-requires : tie.Need-put-last-requires Inv-loop μ-loop
 put-last-requires c κs =
-    let at = c .before .before .before .before .before .before .before .before .before .before .before .before .before .before .before .before .loop in
-    let turned = c .before .before .before .before .before .before .before .before .before .before .before .turn in
-    let made = turned .ensures (c .before .before .before .before .if1 .left) in
+    let at = c .before .before .before .before .before .before .before .before .before .before .before .before .before .before .before .loop in
+    let turned = c .before .before .before .before .before .before .before .before .before .before .turn in
+    let made = turned .ensures (c .before .before .before .if1 .left) in
     let start = c .before .before .before .before .before .before .before .before .before .before .before .before .before .before .before .before .before .before .before .before .before .before .before in
     let inv = at .inv in
     let normal = turned .last .1 .1 .0 in
@@ -78,20 +78,20 @@ put-last-requires c κs =
     let out = turned .last .1 .1 .1 .1 .1 .0 in
     let after = turned .result .advanced in
     let carried =
-    turn-cuts (start .args .state) (at .normal) (at .redundant) (at .p) (at .out) (at .at) normal redundant out after (made .0)
-    (turned .kept .1 .1 .0) (turned .kept .1 .1 .1 .1 .0) (made .2) (inv .6) (inv .7) in (
+    turn-cuts (start .args .callers .now) (start .args .ours) (start .args .state) (at .normal) (at .redundant) (at .advanced .progress) (at .out) (at .advanced .next)
+    normal redundant out after (made .0) (turned .kept .1 .1 .0) (turned .kept .1 .1 .1 .1 .0) (made .2) (inv .6) (inv .7) in (
       (omega (arith, made .2, turned .kept .1 .1 .1 .1 .1 .0), omega (arith, turned .kept .1 .1 .1 .1 .1 .0, inv .2, start .pre .1 .1)),
-      printed-to-the-end (start .args .state) normal redundant (after .progress) out (after .next) carried (c .before .if2 .taken),
+      printed-to-the-end (start .args .callers .now) (start .args .ours) (start .args .state) normal redundant (after .progress) out (after .next) carried (c .before .if2 .taken),
     )
 
 same-length-4 : tie.Need-same-length-4 Inv-loop μ-loop
-same-length-4 c = c .before .before .before .before .before .before .before .before .before .before .before .before .before .before .turn .kept .1 .1 .0 ∙ c .before .before .before .before .before .before .before .before .before .before .before .before .before .before .before .before .before .before .before .loop .inv .0
+same-length-4 c = c .before .before .before .before .before .before .before .before .before .before .before .before .before .turn .kept .1 .1 .0 ∙ c .before .before .before .before .before .before .before .before .before .before .before .before .before .before .before .before .before .before .loop .inv .0
 
 same-length-5 : tie.Need-same-length-5 Inv-loop μ-loop
-same-length-5 c = c .before .before .before .before .before .before .before .before .before .before .before .before .before .before .turn .kept .1 .1 .1 .1 .0 ∙ c .before .before .before .before .before .before .before .before .before .before .before .before .before .before .before .before .before .before .before .loop .inv .1
+same-length-5 c = c .before .before .before .before .before .before .before .before .before .before .before .before .before .turn .kept .1 .1 .1 .1 .0 ∙ c .before .before .before .before .before .before .before .before .before .before .before .before .before .before .before .before .before .before .loop .inv .1
 
 same-length-6 : tie.Need-same-length-6 Inv-loop μ-loop
-same-length-6 c = c .before .before .put-last .kept .0 ∙ c .before .before .before .before .before .before .before .before .before .before .before .before .before .before .turn .kept .1 .1 .1 .1 .1 .0 ∙ c .before .before .before .before .before .before .before .before .before .before .before .before .before .before .before .before .before .before .before .loop .inv .2
+same-length-6 c = c .before .before .put-last .kept .0 ∙ c .before .before .before .before .before .before .before .before .before .before .before .before .before .turn .kept .1 .1 .1 .1 .1 .0 ∙ c .before .before .before .before .before .before .before .before .before .before .before .before .before .before .before .before .before .before .loop .inv .2
 
 returns-2 : tie.Need-returns-2 Inv-loop μ-loop
 returns-2 c = tt
@@ -104,10 +104,10 @@ loop-less c = omega arith
 
 loop-again : tie.Need-loop-again Inv-loop μ-loop
 loop-again c =
-    let at = c .before .before .before .before .before .before .before .before .before .before .before .before .before .before .before .loop in
-    let turned = c .before .before .before .before .before .before .before .before .before .before .turn in
-    let made = turned .ensures (c .before .before .before .if1 .left) in
-    let state = c .before .before .before .before .before .before .before .before .before .before .before .before .before .before .before .before .before .before .before .before .before .before .args .state in
+    let at = c .before .before .before .before .before .before .before .before .before .before .before .before .before .before .loop in
+    let turned = c .before .before .before .before .before .before .before .before .before .turn in
+    let made = turned .ensures (c .before .before .if1 .left) in
+    let a = c .before .before .before .before .before .before .before .before .before .before .before .before .before .before .before .before .before .before .before .before .before .before .args in
     let inv = at .inv in
     let lies = made .1 in (
       turned .kept .1 .1 .0 ∙ inv .0,
@@ -115,11 +115,11 @@ loop-again c =
       turned .kept .1 .1 .1 .1 .1 .0 ∙ inv .2,
       ((lies .0 .0, omega (arith, lies .0 .1, inv .0)), (lies .1 .0, omega (arith, lies .1 .1, inv .1))),
       omega (arith, made .2, inv .2),
-      omega (arith, made .3, inv .5, c .before .before .before .before .before .before .before .before .before .before .before .before .before .before .loop-test .taken),
+      omega (arith, made .3, inv .5, c .before .before .before .before .before .before .before .before .before .before .before .before .before .loop-test .taken),
       c .if2 .left,
-      turn-cuts state (at .normal) (at .redundant) (at .p) (at .out) (at .at) (turned .last .1 .1 .0) (turned .last .1 .1 .1 .1 .0)
-          (turned .last .1 .1 .1 .1 .1 .0) (turned .result .advanced) (made .0) (turned .kept .1 .1 .0) (turned .kept .1 .1 .1 .1 .0) (made .2) (inv .6)
-          (inv .7),
+      turn-cuts (a .callers .now) (a .ours) (a .state) (at .normal) (at .redundant) (at .advanced .progress) (at .out) (at .advanced .next)
+          (turned .last .1 .1 .0) (turned .last .1 .1 .1 .1 .0) (turned .last .1 .1 .1 .1 .1 .0) (turned .result .advanced) (made .0)
+          (turned .kept .1 .1 .0) (turned .kept .1 .1 .1 .1 .0) (made .2) (inv .6) (inv .7),
     )
 
 same-length-7 : tie.Need-same-length-7 Inv-loop μ-loop

@@ -11,7 +11,7 @@ put-heading-requires c κs = search needs
 cut-links-requires : tie.Need-cut-links-requires
 cut-links-requires c κs =
     let heading = c .before .before .before .before .before .put-heading in
-    let start = c .before .before .before .before .before .before .before .before .before .before .before .before in
+    let start = c .before .before .before .before .before .before .before .before .before .before .before .before .before in
     let within = heading .ensures .place in (
       start .pre .0,
       (

@@ -25,11 +25,11 @@ finish-requires : tie.Need-finish-requires
 finish-requires c κs =
     let ends = c .before .before .before .put-end in
     let place = c .before .before .before .before .before .before .make-room in
-    let start = c .before .before .before .before .before .before .before .before .before in
+    let start = c .before .before .before .before .before .before .before .before .before .before in
     let a = start .args in (
       omega (arith, ends .ensures .1, ends .kept .0, place .ensures .1),
-      printed-whole (a .state) (a .out .now) (a .at) (a .count) (ends .last .0) (ends .result) (start .pre .1)
-          (subst (λ (n : ℕ). PutAt (a .out .now) n (endOf (a .count)) (ends .last .0) (ends .result)) (place .ensures .0) (ends .ensures .0))
+      printed-whole (a .callers .now) (a .ours) (a .state) (a .out .now) (a .was .next) (a .was .progress .«handed_up») (ends .last .0) (ends .result) (start .pre .1)
+          (subst (λ (n : ℕ). PutAt (a .out .now) n (endOf (a .was .progress .«handed_up»)) (ends .last .0) (ends .result)) (place .ensures .0) (ends .ensures .0))
           (omega (arith, ends .ensures .1, place .ensures .1)),
     )
 

@@ -50,8 +50,8 @@ advance-requires c κs =
     let lent = c .before .before .before .windowed .ensures in
     let windows = c .before .before .before .before .before .before .before .before .before .before .before .both-topped-up in
     let made = windows .ensures (c .before .before .before .before .before .before .if2 .left) in
-    let place = c .before .before .before .before .before .before .before .before .before .before .before .before .before .before .before .make-room in
-    let start = c .before .before .before .before .before .before .before .before .before .before .before .before .before .before .before .before .before .before .before .before .before .before in
+    let place = c .before .before .before .before .before .before .before .before .before .before .before .before .before .before .before .before .make-room in
+    let start = c .before .before .before .before .before .before .before .before .before .before .before .before .before .before .before .before .before .before .before .before .before .before .before .before in
     let normal = length (windows .last .1 .1 .0) in
     let redundant = length (windows .last .1 .1 .1 .1 .0) in (
       subst (λ (q : Progress). Lies q normal redundant) (sym lent)
@@ -81,8 +81,8 @@ returns-3 c =
     let lent = c .before .before .before .before .before .before .windowed .ensures in
     let windows = c .before .before .before .before .before .before .before .before .before .before .before .before .before .before .both-topped-up in
     let made = windows .ensures (c .before .before .before .before .before .before .before .before .before .if2 .left) in
-    let place = c .before .before .before .before .before .before .before .before .before .before .before .before .before .before .before .before .before .before .make-room in
-    let start = c .before .before .before .before .before .before .before .before .before .before .before .before .before .before .before .before .before .before .before .before .before .before .before .before .before in
+    let place = c .before .before .before .before .before .before .before .before .before .before .before .before .before .before .before .before .before .before .before .make-room in
+    let start = c .before .before .before .before .before .before .before .before .before .before .before .before .before .before .before .before .before .before .before .before .before .before .before .before .before .before .before in
     let a = start .args in
     let after = advance .ensures .1 in
     let lies = after .0 in
@@ -96,9 +96,9 @@ returns-3 c =
         up = made .0;
         advanced =
             subst (λ (n : ℕ).
-            AdvancedTo normal redundant (windowed (first .window) (second .window) (a .p)) (a .out .now) n (advance .last .1 .1 .0) (advance .result))
+            AdvancedTo normal redundant (a .callers .now) (a .ours) (windowed (first .window) (second .window) (a .was .progress)) (a .out .now) n (advance .last .1 .1 .0) (advance .result))
             (place .ensures .0)
-            (subst (λ (q : Progress). AdvancedTo normal redundant q (a .out .now) (place .result .at) (advance .last .1 .1 .0) (advance .result)) lent
+            (subst (λ (q : Progress). AdvancedTo normal redundant (a .callers .now) (a .ours) q (a .out .now) (place .result .at) (advance .last .1 .1 .0) (advance .result)) lent
             (advance .ensures .0));
       },
       ((lies .0 .0, omega (arith, lies .0 .1, windows .kept .1 .1 .0)), (lies .1 .0, omega (arith, lies .1 .1, windows .kept .1 .1 .1 .1 .0))),

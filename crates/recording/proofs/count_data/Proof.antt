@@ -1,10 +1,7 @@
 -- `recording::count_data` meets its contract: the part that the step hands up has as many bytes as its answer says. Assumes nothing.
-use mathlib.Core.Path.{sym, ap, subst, _∙_}
-use lib.ListN.{length, take}
+use mathlib.Core.Path.{sym, ap, _∙_}
+use lib.ListN.{length}
 use lib.Seq.{length-take-le}
-use Rattle.links.specs.Table.{userDataOf}
-use Rattle.links.specs.declared.Taken.{Taken}
-use Rattle.link_promises.proofs.Promises.{counts-its-user-data}
 use borrow.Author.Needs.{needs}
 use Rattle.recording.proofs.count_data.Statement.{statement}
 use Rattle.recording.proofs.count_data.Tie as tie
@@ -25,12 +22,7 @@ user-data-by-readers-requires c κs = search needs
 returns : tie.Need-returns
 returns c =
     let start = c .before .before .before .before .before in
-    let a = start .args in
-    let ns = take (a .p .normal .to) (a .normal .now) in
-    let rs = take (a .p .redundant .to) (a .redundant .now) in
-    let is = start .pre .1 in
-    ap length (c .user-data-by-readers .ensures .0) ∙ ap (λ (t : Taken). length (userDataOf ns rs t)) is
-    ∙ counts-its-user-data ns (a .p .normal .from) rs (a .p .redundant .from) (a .p .state) ∙ sym (ap (λ (t : Taken). t .size) is)
+    ap length (c .user-data-by-readers .ensures .0) ∙ start .pre .1
 
 pub count-data-spec : {M : Type 1} → statement M
 count-data-spec =

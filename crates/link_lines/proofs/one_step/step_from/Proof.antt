@@ -15,11 +15,17 @@ read32-requires c κs = search needs
 read32-requires-2 : tie.Need-read32-requires-2
 read32-requires-2 c κs = search needs
 
+read32-requires-3 : tie.Need-read32-requires-3
+read32-requires-3 c κs = search needs
+
 read16-requires-2 : tie.Need-read16-requires-2
 read16-requires-2 c κs = search needs
 
 read16-requires-3 : tie.Need-read16-requires-3
 read16-requires-3 c κs = search needs
+
+read16-requires-4 : tie.Need-read16-requires-4
+read16-requires-4 c κs = search needs
 
 returns : tie.Need-returns
 returns c = cc
@@ -32,6 +38,8 @@ step-from-spec =
     read16-requires
     read32-requires
     read32-requires-2
+    read32-requires-3
     read16-requires-2
     read16-requires-3
+    read16-requires-4
     returns)
