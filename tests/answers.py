@@ -1,5 +1,5 @@
 # The answers that 01 has: of a step over two links, of writing a packet, and of each connection call in each phase.
-STEP = ["308", "301", "302", "303", "304", "305", "309", "306", "307", "0"]
+STEP = ["308", "301", "302", "303", "304", "305", "309", "310", "306", "307", "0"]
 WRITING = ["311", "312", "313", "0"]
 CALLS = {1: "begin", 2: "receive", 3: "send", 4: "tick", 5: "close"}
 PHASES = ["closed", "initiator waits for 2", "initiator waits for 4", "responder waits for 1", "responder waits for 3", "responder waits for 5",

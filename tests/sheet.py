@@ -197,21 +197,48 @@ def step_lines(state, wanted, after, links):
     return answer, 2 * [first_line, state_line, "data " + hexed(links[link][int(start):int(start) + int(data)])]
 
 
+# Our own id and the list of those who may call us, in bytes. A responder's first packet is judged by them, so that its case must give both;
+# another case may, and without them our id is 0 and the list is empty.
+def callers_of(case, needed):
+    if not needed and not any(item.text.startswith(("ours:", "callers:")) for item in case.items):
+        return bytes(4), b""
+    word, (callers, inline) = item_of(case, "ours:")[1], item_of(case, "callers:")
+    if not re.fullmatch(r"[0-9A-F]{8}", word):
+        raise Wrong("%s: not an id of eight hex digits" % word)
+    if not inline and not callers.hex:
+        raise Wrong("`callers:` gives neither bytes nor `nothing`")
+    return bytes.fromhex(word), joined(hex_of(callers, inline))
+
+
+# A step as it stands in a file that `single steps` reads; a link is its place and its bytes.
+def step_bytes(flags, last, normal, redundant, ours=bytes(4), callers=b""):
+    fields = bytes([flags]) + big_endian(last, 2) + big_endian(normal[0], 4) + big_endian(redundant[0], 4) + ours
+    lent = normal[1], redundant[1], callers
+    return fields + b"".join(big_endian(len(part), 2) for part in lent) + b"".join(lent)
+
+
 def read_step(case):
     state = state_of(item_of(case, "before:")[1])
-    (normal_place, normal), (redundant_place, redundant) = link_of(case, "normal"), link_of(case, "redundant")
+    normal, redundant = link_of(case, "normal"), link_of(case, "redundant")
+    ours, callers = callers_of(case, state["role"] == "responder" and state["first"])
     flags = state["links"][0] + 2 * state["links"][1] + 4 * ROLES[state["role"]] + 8 * state["strict"] + 16 * state["first"]
     case.kind = "steps"
-    case.given = bytes([flags]) + big_endian(state["last"], 2) + big_endian(normal_place, 4) + big_endian(redundant_place, 4)
-    case.given += big_endian(len(normal), 2) + big_endian(len(redundant), 2) + normal + redundant
-    links = {"normal": normal, "redundant": redundant}
+    case.given = step_bytes(flags, state["last"], normal, redundant, ours, callers)
+    links = {"normal": normal[1], "redundant": redundant[1]}
     case.answer, case.wanted = step_lines(state, item_of(case, "=>")[1], item_of(case, "after:")[1], links)
+
+
+# The words of a run of `cut` as they are typed, with these two for its files. An id is eight hex digits (CUT-5).
+CUT = re.compile(r"(?:initiator (?:strict|loose) NORMAL REDUNDANT|responder (?:strict|loose) NORMAL REDUNDANT(?: [0-9A-Fa-f]{8})+)")
 
 
 # A run of `cut`: its words, both files, and every line after the heading.
 def read_cut(case):
     case.kind = "cut"
-    case.given = item_of(case, "cut:")[1].split(" "), link_of(case, "normal")[1], link_of(case, "redundant")[1]
+    words = item_of(case, "cut:")[1]
+    if not CUT.fullmatch(words):
+        raise Wrong("%s: not the words of `cut`" % words)
+    case.given = words.split(" "), link_of(case, "normal")[1], link_of(case, "redundant")[1]
     lines = [item.text[2:].strip() for item in case.items if item.text[:2] in ("->", "=>")]
     case.answer = item_of(case, "=>")[1].split(" ")[1]
     case.wanted = ["link answer used type number data"] + lines
@@ -400,7 +427,7 @@ def read_trace(case, histories):
 
 # The words that a line of a case may begin with.
 WORDS = {
-    "links.cases": ("before:", "normal", "redundant", "cut:", "after:", "->", "=>"),
+    "links.cases": ("before:", "ours:", "callers:", "normal", "redundant", "cut:", "after:", "->", "=>"),
     "packets.cases": ("write:", "data:", "written:", "=>"),
     "messages.cases": ("message:", "=>"),
     "calls.cases": ("record:", "call:", "writes:", "delivers:", "age:", "after:", "=>"),

@@ -1,4 +1,4 @@
-//! 01's "Taking one packet from two links": one step, and the loop of the program `cut`.
+//! 01's "Taking one packet from two links" with the row 310 of 02's No. 9: one step, and the loop of the program `cut`.
 
 use crate::packet::{self, Link, Packet};
 use std::fmt::Write;
@@ -25,6 +25,13 @@ pub struct State {
 /// LINK-FRESH: what the first step starts from.
 pub fn fresh(role: Role, strict: bool) -> State {
     State { normal_up: true, redundant_up: true, role, strict, first: true, last: 0 }
+}
+
+/// LINK-LIST: our own id, and the lent list of those who may call us, 4 bytes each, one behind the other.
+#[derive(Clone, Copy, PartialEq, Eq, Debug)]
+pub struct Known<'a> {
+    pub ours: u32,
+    pub callers: &'a [u8],
 }
 
 /// What a step answers: the link it names, the bytes of that link used up, the packet handed up.
@@ -82,40 +89,52 @@ fn first_kept(role: Role, taken: &Packet) -> bool {
             .is_some_and(|row| packet::payload_kept(row.payload, taken.number, taken.data))
 }
 
+/// The row 310, for an AU1 that 309 has let pass: its caller is on the list, and it is us who are called. A cut last entry is no entry.
+fn let_in(known: &Known, taken: &Packet) -> bool {
+    let (caller, called) = packet::ids_of(taken.data);
+    let listed = known.callers.chunks_exact(packet::ID).any(|entry| entry == caller.to_be_bytes());
+    listed && called == known.ours
+}
+
 /// The rows 305 to 307 and 0, for a packet whose check and flag are right.
-fn judged(state: &State, taken: &Packet) -> u16 {
+fn judged(state: &State, known: &Known, taken: &Packet) -> u16 {
     let d = taken.number.wrapping_sub(state.last);
     if packet::in_class_d(taken.kind).is_none() {
         305
-    } else if state.first {
-        if first_kept(state.role, taken) { 0 } else { 309 }
-    } else if taken.kind == packet::AU1 || taken.kind == packet::AU2 || d == 0 || d >= 32768 {
+    } else if state.first && !first_kept(state.role, taken) {
+        309
+    } else if state.first && state.role == Role::Responder && !let_in(known, taken) {
+        310
+    } else if !state.first && (taken.kind == packet::AU1 || taken.kind == packet::AU2 || d == 0 || d >= 32768) {
         306
-    } else if state.strict && d >= 2 {
+    } else if !state.first && state.strict && d >= 2 {
         307
     } else {
         0
     }
 }
 
+/// A link's bytes and the place in them.
+pub type Reader<'a> = (&'a [u8], usize);
+
 /// One step: the table of 01 in its order.
-pub fn step<'a>(state: State, normal: &'a [u8], normal_place: usize, redundant: &'a [u8], redundant_place: usize) -> (State, Step<'a>) {
-    let on_normal = rest(normal, normal_place);
-    let on_redundant = rest(redundant, redundant_place);
+pub fn step<'a>(state: State, known: Known, normal: Reader<'a>, redundant: Reader<'a>) -> (State, Step<'a>) {
+    let on_normal = rest(normal.0, normal.1);
+    let on_redundant = rest(redundant.0, redundant.1);
     let nothing = |answer| (state, Step { answer, link: Link::Normal, used: 0, packet: None });
     if !state.normal_up && !state.redundant_up {
         nothing(308)
     } else if state.normal_up && judgeable(on_normal) {
-        looked_at(state, Link::Normal, on_normal)
+        looked_at(state, known, Link::Normal, on_normal)
     } else if state.redundant_up && judgeable(on_redundant) {
-        looked_at(state, Link::Redundant, on_redundant)
+        looked_at(state, known, Link::Redundant, on_redundant)
     } else {
         nothing(301)
     }
 }
 
 /// The rows from 302 on, for the link looked at.
-fn looked_at(state: State, link: Link, bytes: &[u8]) -> (State, Step<'_>) {
+fn looked_at<'a>(state: State, known: Known, link: Link, bytes: &'a [u8]) -> (State, Step<'a>) {
     let down = |answer| {
         let after = match link {
             Link::Normal => State { normal_up: false, ..state },
@@ -135,7 +154,7 @@ fn looked_at(state: State, link: Link, bytes: &[u8]) -> (State, Step<'_>) {
     if flag != link.flag() {
         return down(304);
     }
-    match judged(&state, &taken) {
+    match judged(&state, &known, &taken) {
         0 => {
             let after = State { first: false, last: taken.number, ..state };
             (after, Step { answer: 0, link, used, packet: Some(taken) })
@@ -145,12 +164,12 @@ fn looked_at(state: State, link: Link, bytes: &[u8]) -> (State, Step<'_>) {
 }
 
 /// What the program `cut` prints for two links' whole bytes.
-pub fn cut(role: Role, strict: bool, normal: &[u8], redundant: &[u8]) -> String {
+pub fn cut(role: Role, strict: bool, known: Known, normal: &[u8], redundant: &[u8]) -> String {
     let mut state = fresh(role, strict);
     let (mut normal_place, mut redundant_place, mut handed_up) = (0, 0, 0);
     let mut printed = String::from("link answer used type number data\n");
     loop {
-        let (after, answered) = step(state, normal, normal_place, redundant, redundant_place);
+        let (after, answered) = step(state, known, (normal, normal_place), (redundant, redundant_place));
         state = after;
         match answered.link {
             Link::Normal => normal_place += answered.used,

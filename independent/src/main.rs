@@ -1,6 +1,7 @@
 //! The independent program: ordinary Rust, written from 01 and not from the Rattle code, to compare with.
 
 mod annex;
+mod callers;
 mod calls;
 mod connection;
 mod craft;
@@ -19,12 +20,13 @@ mod tables;
 mod traces;
 mod writes;
 
-use links::Role;
+use links::{Known, Role};
 use std::io::{self, BufWriter, Read, Write};
 use std::path::Path;
 use std::process::ExitCode;
 
-const USAGE: &str = "independent cut initiator|responder strict|loose NORMAL REDUNDANT
+const USAGE: &str = "independent cut initiator strict|loose NORMAL REDUNDANT
+independent cut responder strict|loose NORMAL REDUNDANT OURS [CALLER ...]   our own id and those who may call, each of eight hex digits
 independent replay [FILE]
 independent check                     004's annex table 14 beside 01's check
 independent types                     the constant table of packet types
@@ -54,19 +56,7 @@ fn main() -> ExitCode {
 
 fn run(words: &[&str]) -> Result<bool, String> {
     match words {
-        ["cut", role, strict, normal, redundant] => {
-            let role = match *role {
-                "initiator" => Role::Initiator,
-                "responder" => Role::Responder,
-                other => return Err(format!("{other}: not initiator or responder")),
-            };
-            let strict = match *strict {
-                "strict" => true,
-                "loose" => false,
-                other => return Err(format!("{other}: not strict or loose")),
-            };
-            print_all([links::cut(role, strict, &file(normal)?, &file(redundant)?)])
-        }
+        ["cut", role, strict, normal, redundant, ids @ ..] => cut(role, strict, normal, redundant, ids),
         ["replay"] => print_all([replay::replay(&standard_input()?)]),
         ["replay", name] => print_all([replay::replay(&file(name)?)]),
         ["check"] => print_all([annex::table()]),
@@ -93,6 +83,34 @@ fn run(words: &[&str]) -> Result<bool, String> {
         }
         _ => Err(format!("wrong arguments; it is one of\n{USAGE}")),
     }
+}
+
+/// What `cut` prints; a responder is given its own id and the callers, an initiator is not.
+fn cut(role: &str, strict: &str, normal: &str, redundant: &str, ids: &[&str]) -> Result<bool, String> {
+    let role = match (role, ids) {
+        ("initiator", []) => Role::Initiator,
+        ("responder", [_, ..]) => Role::Responder,
+        _ => return Err(format!("{role} with {} ids: not initiator with none, or responder with our own and then any number of callers", ids.len())),
+    };
+    let strict = match strict {
+        "strict" => true,
+        "loose" => false,
+        other => return Err(format!("{other}: not strict or loose")),
+    };
+    let (ours, callers) = ids_of(ids)?;
+    print_all([links::cut(role, strict, Known { ours, callers: &callers }, &file(normal)?, &file(redundant)?)])
+}
+
+/// Our own id and the list, from the words of `cut`. An initiator, who is not called, has no words, and any id will do.
+fn ids_of(words: &[&str]) -> Result<(u32, Vec<u8>), String> {
+    let mut ids = words.iter().map(|word| id(word)).collect::<Result<Vec<u32>, String>>()?.into_iter();
+    Ok((ids.next().unwrap_or(0), ids.flat_map(u32::to_be_bytes).collect()))
+}
+
+/// CUT-5: an id is exactly eight hexadecimal digits.
+fn id(word: &str) -> Result<u32, String> {
+    let digits = word.len() == 8 && word.bytes().all(|byte| byte.is_ascii_hexdigit());
+    u32::from_str_radix(word, 16).ok().filter(|_| digits).ok_or(format!("{word}: not eight hexadecimal digits"))
 }
 
 fn number(text: &str) -> Result<u64, String> {

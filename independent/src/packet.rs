@@ -39,6 +39,8 @@ pub const RELEASE: u8 = 4;
 /// Class D, the last of the fields that AU1's user data begins with.
 pub const CLASS_D: u8 = 0x03;
 pub const CLASS_AT: usize = 8;
+/// The bytes of an id.
+pub const ID: usize = 4;
 
 /// What a type's user data must hold.
 #[derive(Clone, Copy, PartialEq, Eq, Debug)]
@@ -88,6 +90,12 @@ pub fn payload_kept(payload: Payload, number: u16, data: &[u8]) -> bool {
         Payload::Any => true,
         Payload::ClassA => false,
     }
+}
+
+/// Caller id and called id, with which an AU1 begins that keeps its payload rule.
+pub fn ids_of(data: &[u8]) -> (u32, u32) {
+    let id = |at: usize| u32::from_be_bytes([data[at], data[at + 1], data[at + 2], data[at + 3]]);
+    (id(0), id(ID))
 }
 
 /// The check of 01: x^16+x^12+x^5+1, least significant bit of each byte first, the register all

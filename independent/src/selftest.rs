@@ -1,7 +1,7 @@
 //! The program's own tests: 01's "Numbers worked through", its trace example, and each bound on both sides.
 
 use crate::connection::{self, Answer, Record, Settings, ALL_ZERO};
-use crate::links::{self, Role, State};
+use crate::links::{self, Known, Role, State};
 use crate::message::{self, After, Message};
 use crate::packet::{self, Link, Packet};
 use crate::replay::{self, Call};
@@ -32,6 +32,11 @@ pub fn all() -> Tests {
     packet_writing(&mut tests);
     packet_rows(&mut tests);
     packet_first_rows(&mut tests);
+    known_callers(&mut tests);
+    known_caller_ids(&mut tests);
+    known_callers_order(&mut tests);
+    known_callers_run(&mut tests);
+    ids_of_cut(&mut tests);
     two_links(&mut tests);
     message_bounds(&mut tests);
     offsets(&mut tests);
@@ -114,10 +119,13 @@ fn later(last: u16, strict: bool) -> State {
     State { first: false, last, ..links::fresh(Role::Responder, strict) }
 }
 
+/// Who is called 07070707 and may be called by 07070707: the ids of the AU1s below.
+const SEVENS: Known = Known { ours: 0x0707_0707, callers: &[7; 4] };
+
 fn judged(state: State, link: Link, bytes: &[u8]) -> (u16, usize) {
     let (_, step) = match link {
-        Link::Normal => links::step(state, bytes, 0, &[], 0),
-        Link::Redundant => links::step(state, &[], 0, bytes, 0),
+        Link::Normal => links::step(state, SEVENS, (bytes, 0), (&[], 0)),
+        Link::Redundant => links::step(state, SEVENS, (&[], 0), (bytes, 0)),
     };
     (step.answer, step.used)
 }
@@ -181,22 +189,161 @@ fn packet_first_rows(tests: &mut Tests) {
     }
 }
 
+/// The user data of an AU1.
+fn calls_of(caller: u32, called: u32, class: u8) -> Vec<u8> {
+    [&caller.to_be_bytes()[..], &called.to_be_bytes(), &[class]].concat()
+}
+
+/// What a responder's first packet gets on either link, under either setting; anything but 0 must leave the state and hand up nothing.
+fn first_of(tests: &mut Tests, what: &str, known: Known, (kind, number, data): (u8, u16, &[u8]), answer: u16) {
+    for link in [Link::Normal, Link::Redundant] {
+        let bytes = packet::bytes_of(link, &plain(kind, number, data));
+        for strict in [true, false] {
+            let state = State { last: 40_000, ..links::fresh(Role::Responder, strict) };
+            let (normal, redundant) = if link == Link::Normal { (&bytes[..], &[][..]) } else { (&[][..], &bytes[..]) };
+            let (after, step) = links::step(state, known, (normal, 0), (redundant, 0));
+            tests.equal(what, (step.answer, step.link, step.used), (answer, link, bytes.len()));
+            let handed_up = (answer == 0).then_some(data);
+            tests.equal(what, step.packet.map(|taken| taken.data), handed_up);
+            tests.equal(what, after, if answer == 0 { State { first: false, last: 0, ..state } } else { state });
+        }
+    }
+}
+
+const THREE: [u8; 12] = [0, 0, 0, 7, 0, 0, 0, 8, 0x0A, 0x0B, 0x0C, 0x0D];
+
+/// 02's No. 9, both sides of each bound: our id is 9, and 7, 8 and 0A0B0C0D may call.
+fn known_callers(tests: &mut Tests) {
+    let mut called = |what: &str, callers: &[u8], caller, called, answer| {
+        let data = calls_of(caller, called, 3);
+        first_of(tests, what, Known { ours: 9, callers }, (1, 0, &data), answer);
+    };
+    called("listed first", &THREE, 7, 9, 0);
+    called("listed in the middle", &THREE, 8, 9, 0);
+    called("listed last", &THREE, 0x0A0B_0C0D, 9, 0);
+    called("not listed", &THREE, 6, 9, 310);
+    for caller in [0x0100_0007, 0x0001_0007, 0x0000_0107, 0x0000_0006, 0x0700_0000, 0x0D0C_0B0A, 0x0A0B_0C0E, 0x0B0B_0C0D] {
+        called("one byte off, or the other way round", &THREE, caller, 9, 310);
+    }
+    called("called not ours", &THREE, 7, 8, 310);
+    for other in [0x0100_0009, 0x0001_0009, 0x0000_0109, 0x0000_0008, 0x0900_0000, 0, 7] {
+        called("called one byte off, or the other way round", &THREE, 7, other, 310);
+    }
+    called("neither", &THREE, 6, 8, 310);
+    called("swapped", &THREE, 9, 7, 310);
+    called("nobody is let in", &[], 7, 9, 310);
+    called("nor the caller 0", &[], 0, 9, 310);
+    for left_over in 1..4 {
+        called("only a cut entry", &THREE[..left_over], 7, 9, 310);
+        called("a cut entry is none", &THREE[..8 + left_over], 0x0A0B_0C0D, 9, 310);
+        called("nor does it spoil the others", &THREE[..8 + left_over], 8, 9, 0);
+    }
+    called("a cut entry with zeros behind", &[&THREE[..8], &[5, 6, 1]].concat(), 0x0506_0100, 9, 310);
+    called("a cut entry with zeros before", &[&THREE[..8], &[5, 6]].concat(), 0x0506, 9, 310);
+    called("only zeros, cut", &[0; 3], 0, 9, 310);
+    called("only zeros, whole", &[0; 4], 0, 9, 0);
+    for (at, caller) in [(1, 0x0000_0700), (2, 0x0007_0000), (3, 0x0700_0000), (5, 0x0000_080A), (7, 0x080A_0B0C)] {
+        tests.equal("the bytes of the caller do stand there", &THREE[at..at + 4], &u32::to_be_bytes(caller)[..]);
+        first_of(tests, "across two entries", Known { ours: 9, callers: &THREE }, (1, 0, &calls_of(caller, 9, 3)), 310);
+    }
+}
+
+/// 02's No. 9: our own id on the list, the least and the greatest ids, an entry twice, another order, a long list.
+fn known_caller_ids(tests: &mut Tests) {
+    let mut judged = |what: &str, ours: u32, callers: &[u32], (caller, called): (u32, u32), answer| {
+        let callers: Vec<u8> = callers.iter().flat_map(|id| id.to_be_bytes()).collect();
+        first_of(tests, what, Known { ours, callers: &callers }, (1, 0, &calls_of(caller, called, 3)), answer);
+    };
+    judged("we call ourselves, and are listed", 9, &[9], (9, 9), 0);
+    judged("we call ourselves, and are not listed", 9, &[8], (9, 9), 310);
+    judged("the least ids", 0, &[0], (0, 0), 0);
+    judged("the greatest ids", u32::MAX, &[u32::MAX], (u32::MAX, u32::MAX), 0);
+    judged("one less", u32::MAX, &[u32::MAX - 1], (u32::MAX, u32::MAX), 310);
+    judged("one more", 0, &[1], (0, 0), 310);
+    judged("we are 0, another is called", 0, &[7], (7, 1), 310);
+    for callers in [[7, 7, 8], [8, 7, 7], [7, 8, 7], [7, 7, 7], [8, 8, 7], [7, 8, 8], [8, 7, 8]] {
+        judged("an entry twice, any order", 9, &callers, (7, 9), 0);
+        judged("an entry twice, any order", 9, &callers, (6, 9), 310);
+    }
+    let many: Vec<u32> = (1000..6000).collect();
+    for (caller, answer) in [(999, 310), (1000, 0), (3500, 0), (5999, 0), (6000, 310)] {
+        judged("a long list", 9, &many, (caller, 9), answer);
+    }
+}
+
+/// 02's No. 9: 309 and the rows above it come first; an initiator, and a packet that is not the first, are not judged.
+fn known_callers_order(tests: &mut Tests) {
+    let nobody = Known { ours: 9, callers: &[] };
+    let (good, other_class, short) = (calls_of(7, 9, 3), calls_of(7, 9, 0), calls_of(7, 9, 3)[..8].to_vec());
+    for (kind, number, data, answer) in [
+        (1, 0, &good, 310), (1, 0, &other_class, 309), (1, 1, &good, 309), (1, 65535, &good, 309), (1, 0, &short, 309), (2, 0, &good, 309),
+        (3, 0, &good, 309), (3, 1, &good, 309), (4, 0, &good, 309), (254, 0, &good, 305), (0, 0, &good, 305),
+    ] {
+        first_of(tests, "nobody is let in", nobody, (kind, number, data), answer);
+        first_of(tests, "someone else is called", Known { ours: 8, callers: &THREE }, (kind, number, data), answer);
+        first_of(tests, "the caller is let in", Known { ours: 9, callers: &THREE }, (kind, number, data), if answer == 310 { 0 } else { answer });
+    }
+    let au2 = packet::bytes_of(Link::Normal, &plain(2, 0, &good[..4]));
+    let au1 = packet::bytes_of(Link::Normal, &plain(1, 1, &good));
+    let data = packet::bytes_of(Link::Normal, &plain(3, 1, &good));
+    for known in [nobody, Known { ours: 8, callers: &THREE }, Known { ours: 9, callers: &THREE }] {
+        let answer = |state, bytes| links::step(state, known, (bytes, 0), (&[], 0)).1.answer;
+        tests.equal("an initiator is not judged", answer(links::fresh(Role::Initiator, true), &au2), 0);
+        tests.equal("a later AU1 is 306", answer(later(0, true), &au1), 306);
+        tests.equal("a later packet is not judged", answer(later(0, true), &data), 0);
+        tests.equal("nor an initiator's", answer(State { role: Role::Initiator, ..later(0, true) }, &data), 0);
+    }
+}
+
+/// 02's No. 9 in whole runs: 310 uses the packet and leaves the first one awaited, on the other link too.
+fn known_callers_run(tests: &mut Tests) {
+    let (stranger, welcome) = (calls_of(6, 9, 3), calls_of(8, 9, 3));
+    let sent = |link, packets: &[(u8, u16, &[u8])]| -> Vec<u8> {
+        packets.iter().flat_map(|(kind, number, data)| packet::bytes_of(link, &plain(*kind, *number, data))).collect()
+    };
+    let normal = sent(Link::Normal, &[(1, 0, &stranger), (3, 0, &[1]), (1, 0, &welcome), (3, 1, &[2])]);
+    let redundant = sent(Link::Redundant, &[(1, 0, &stranger), (3, 2, &[])]);
+    let printed = |callers, normal: &[u8]| links::cut(Role::Responder, true, Known { ours: 9, callers }, normal, &redundant);
+    let wanted = |lines: &[&str]| format!("link answer used type number data\n{}\n", lines.join("\n"));
+    let lines = [
+        "normal 310 19 0 0 0", "normal 309 11 0 0 0", "normal 0 19 1 0 9", "normal 0 11 3 1 1", "redundant 306 19 0 0 0", "redundant 0 10 3 2 0",
+        "normal 301 0 0 0 0", "end 3",
+    ];
+    tests.equal("after 310 the first is awaited", printed(&THREE, &normal), wanted(&lines));
+    let lines = ["normal 310 19 0 0 0", "normal 309 11 0 0 0", "redundant 310 19 0 0 0", "redundant 309 10 0 0 0", "normal 301 0 0 0 0", "end 0"];
+    tests.equal("and on the other link too", printed(&[], &normal[..30]), wanted(&lines));
+    let lines = ["redundant 310 19 0 0 0", "redundant 309 10 0 0 0", "normal 301 0 0 0 0", "end 0"];
+    tests.equal("and where the normal link has nothing", printed(&THREE, &[]), wanted(&lines));
+}
+
+/// CUT-5: our own id first, then the callers, each of exactly eight hexadecimal digits.
+fn ids_of_cut(tests: &mut Tests) {
+    let list = vec![0x0A, 0xBC, 0xDE, 0xF0, 0xFF, 0xFF, 0xFF, 0xFF, 0, 0, 0, 0];
+    tests.equal("ids of cut", crate::ids_of(&["12345678", "0abcDEF0", "FFFFffff", "00000000"]), Ok((0x1234_5678, list)));
+    tests.equal("no callers", crate::ids_of(&["9ABCDEF0"]), Ok((0x9ABC_DEF0, Vec::new())));
+    for word in ["", "0000009", "000000009", "0x000009", "+0000009", "-0000009", " 0000009", "0000009 ", "0000000g", "0000000G", "000000\u{E9}"] {
+        for words in [vec![word], vec![word, "00000001"], vec!["00000009", word], vec!["00000009", word, "00000001"]] {
+            tests.equal("no id", crate::ids_of(&words).is_err(), true);
+        }
+    }
+}
+
 fn two_links(tests: &mut Tests) {
     let normal = packet::bytes_of(Link::Normal, &plain(3, 1, &[1, 2]));
     let redundant = packet::bytes_of(Link::Redundant, &plain(3, 2, &[3]));
     let state = later(0, false);
-    let (after, step) = links::step(state, &normal, 0, &redundant, 0);
+    let (after, step) = links::step(state, SEVENS, (&normal, 0), (&redundant, 0));
     tests.equal("the normal link first", (step.answer, step.link, step.used, after.last), (0, Link::Normal, 12, 1));
     tests.equal("its user data", step.packet.map(|taken| taken.data), Some(&normal[10..]));
-    let (after, step) = links::step(after, &normal, 12, &redundant, 0);
+    let (after, step) = links::step(after, SEVENS, (&normal, 12), (&redundant, 0));
     tests.equal("then the redundant one", (step.answer, step.link, step.used, after.last), (0, Link::Redundant, 11, 2));
-    let (after, step) = links::step(after, &normal, usize::MAX, &redundant, 12);
+    let (after, step) = links::step(after, SEVENS, (&normal, usize::MAX), (&redundant, 12));
     tests.equal("a place past the end", (after.last, step.answer, step.link, step.used), (2, 301, Link::Normal, 0));
-    let (after, step) = links::step(state, &redundant, 0, &normal, 0);
+    let (after, step) = links::step(state, SEVENS, (&redundant, 0), (&normal, 0));
     tests.equal("goes down", (step.answer, step.link, after.normal_up, after.redundant_up), (304, Link::Normal, false, true));
-    let (after, step) = links::step(after, &normal, 0, &normal, 0);
+    let (after, step) = links::step(after, SEVENS, (&normal, 0), (&normal, 0));
     tests.equal("a link that is down is not looked at", (step.answer, step.link, after.redundant_up), (304, Link::Redundant, false));
-    let (down, step) = links::step(after, &normal, 0, &redundant, 0);
+    let (down, step) = links::step(after, SEVENS, (&normal, 0), (&redundant, 0));
     tests.equal("both links down", (step.answer, step.link, step.used, down), (308, Link::Normal, 0, after));
     let mut ids = [7; 9];
     ids[8] = 3;
@@ -204,7 +351,7 @@ fn two_links(tests: &mut Tests) {
     let au1_redundant = packet::bytes_of(Link::Redundant, &plain(1, 0, &ids));
     tests.equal(
         "what cut prints",
-        links::cut(Role::Responder, true, &au1_normal, &au1_redundant),
+        links::cut(Role::Responder, true, SEVENS, &au1_normal, &au1_redundant),
         String::from("link answer used type number data\nnormal 0 19 1 0 9\nredundant 306 19 0 0 0\nnormal 301 0 0 0 0\nend 1\n"),
     );
 }
@@ -670,7 +817,7 @@ fn trace_ages(tests: &mut Tests) {
 fn everything_occurs(tests: &mut Tests) {
     tests.equal("answers that no trace shows", traces::missing(&traces::counts_of(1, 200)), Vec::new());
     let answers: BTreeSet<String> = streams::steps(1, 4000).filter_map(|trial| trial.line().split(" = ").nth(1).map(first_word)).collect();
-    let wanted = ["0", "301", "302", "303", "304", "305", "306", "307", "308", "309"].map(String::from);
+    let wanted = ["0", "301", "302", "303", "304", "305", "306", "307", "308", "309", "310"].map(String::from);
     tests.equal("answers of steps", answers, BTreeSet::from(wanted));
     let answers: BTreeSet<String> = calls::calls(1, 40_000).filter_map(|(_, line)| line.split(" = ").nth(1).map(first_word)).collect();
     let wanted = [

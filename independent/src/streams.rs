@@ -1,7 +1,8 @@
 //! Random pairs of link bytes, and random single steps, from fixed seeds.
 
+use crate::callers::{self, Allowed};
 use crate::given::Fields;
-use crate::links::{self, Role, State};
+use crate::links::{self, Known, Role, State};
 use crate::packet::{self, Link, Packet};
 use crate::random::Random;
 use std::collections::BTreeMap;
@@ -22,6 +23,8 @@ struct Faults {
     link: u64,
     /// Type, number, first packet: used and dropped.
     dropped: u64,
+    /// A responder's first packet that the list or our id turns away, before the one that is let in.
+    unwelcome: u64,
     /// Lost on one link.
     lost: u64,
     /// Repeated on one link.
@@ -46,23 +49,39 @@ fn some_length(random: &mut Random, long: bool) -> usize {
     }
 }
 
-/// The first packet that the role waits for, with what it must hold.
-fn first_meant(random: &mut Random, role: Role) -> Meant {
+/// An AU1 with these ids and perhaps more behind its class.
+fn au1(random: &mut Random, (caller, called): (u32, u32)) -> Meant {
     let tail = random.pick(&[0, 0, 1, 20]);
-    let (kind, least) = match role {
-        Role::Responder => (packet::AU1, 9),
-        Role::Initiator => (packet::AU2, 4),
-    };
-    let mut data = random.bytes(least + tail);
-    if role == Role::Responder {
-        data[packet::CLASS_AT] = packet::CLASS_D;
-    }
-    Meant { kind, number: 0, data }
+    let ids = [caller.to_be_bytes(), called.to_be_bytes()].concat();
+    Meant { kind: packet::AU1, number: 0, data: [ids, vec![packet::CLASS_D], random.bytes(tail)].concat() }
 }
 
-/// The same with one thing wrong: type, number, class, or one byte short.
-fn first_faulty(random: &mut Random, role: Role) -> Meant {
-    let mut meant = first_meant(random, role);
+/// The first packet that the role waits for, with what it must hold, of a caller that is let in.
+fn first_meant(random: &mut Random, role: Role, allowed: &Allowed) -> Meant {
+    match role {
+        Role::Responder => {
+            let ids = callers::welcome(random, allowed);
+            au1(random, ids)
+        }
+        Role::Initiator => {
+            let tail = random.pick(&[0, 0, 1, 20]);
+            Meant { kind: packet::AU2, number: 0, data: random.bytes(packet::ID + tail) }
+        }
+    }
+}
+
+/// An AU1 that is mostly turned away.
+fn first_unwelcome(random: &mut Random, allowed: &Allowed) -> Meant {
+    let ids = callers::unwelcome(random, allowed);
+    au1(random, ids)
+}
+
+/// The first packet with one thing wrong: type, number, class, or one byte short; its caller may be one that is let in or not.
+fn first_faulty(random: &mut Random, role: Role, allowed: &Allowed) -> Meant {
+    let mut meant = match role {
+        Role::Responder if random.once_in(2) => first_unwelcome(random, allowed),
+        _ => first_meant(random, role, allowed),
+    };
     match random.below(5) {
         0 => meant.kind = random.pick(&[packet::AU1, packet::AU2, packet::DATA, packet::RELEASE]),
         1 => meant.number = random.pick(&[1, 2, 256, 32767, 32768, 65535]),
@@ -83,14 +102,25 @@ fn next_number(random: &mut Random, last: u16, faults: Faults) -> u16 {
     last.wrapping_add(d)
 }
 
-/// What the peer means to send over both links.
-fn conversation(random: &mut Random, role: Role, count: usize, faults: Faults) -> Vec<Meant> {
-    let long = random.once_in(4);
+/// What comes before the first packet that is handed up, and that packet.
+fn opening(random: &mut Random, role: Role, allowed: &Allowed, faults: Faults) -> Vec<Meant> {
     let mut sent = Vec::new();
-    while happens(random, faults.dropped) {
-        sent.push(first_faulty(random, role));
+    loop {
+        if happens(random, faults.dropped) {
+            sent.push(first_faulty(random, role, allowed));
+        } else if role == Role::Responder && happens(random, faults.unwelcome) {
+            sent.push(first_unwelcome(random, allowed));
+        } else {
+            sent.push(first_meant(random, role, allowed));
+            return sent;
+        }
     }
-    sent.push(first_meant(random, role));
+}
+
+/// What the peer means to send over both links.
+fn conversation(random: &mut Random, role: Role, allowed: &Allowed, count: usize, faults: Faults) -> Vec<Meant> {
+    let long = random.once_in(4);
+    let mut sent = opening(random, role, allowed, faults);
     let mut last = 0;
     for _ in 0..count {
         let number = next_number(random, last, faults);
@@ -101,8 +131,14 @@ fn conversation(random: &mut Random, role: Role, count: usize, faults: Faults) -
         if happens(random, faults.dropped) {
             kind = random.pick(&[1, 2, 0, 5, 127, 250, 251, 252, 253, 254, 255]);
         }
-        let length = some_length(random, long);
-        sent.push(Meant { kind, number, data: random.bytes(length) });
+        // an AU1 that comes later may have ids too, which are not judged
+        let data = if kind == packet::AU1 && random.once_in(2) {
+            first_unwelcome(random, allowed).data
+        } else {
+            let length = some_length(random, long);
+            random.bytes(length)
+        };
+        sent.push(Meant { kind, number, data });
     }
     sent
 }
@@ -162,6 +198,8 @@ fn link_bytes(random: &mut Random, link: Link, sent: &[Meant], faults: Faults) -
 pub struct Pair {
     pub role: Role,
     pub strict: bool,
+    /// What a responder is given.
+    pub allowed: Allowed,
     pub normal: Vec<u8>,
     pub redundant: Vec<u8>,
 }
@@ -171,12 +209,14 @@ pub fn pair(random: &mut Random) -> Pair {
     let faults = Faults {
         link: random.pick(&[0, 100, 30, 8, 4]),
         dropped: random.pick(&[0, 30, 8, 3]),
+        unwelcome: random.pick(&[0, 2, 2, 2]),
         lost: random.pick(&[0, 0, 20, 4]),
         repeated: random.pick(&[0, 0, 20, 4]),
     };
     let (role, strict) = (some_role(random), random.once_in(2));
+    let allowed = callers::some_allowed(random);
     let count = random.pick(&[0, 1, 3, 10, 40, 150, 400]);
-    let sent = conversation(random, role, count, faults);
+    let sent = conversation(random, role, &allowed, count, faults);
     // A lagging link misses the end of what was sent, or all of it.
     let lag = |random: &mut Random| match random.below(4) {
         0 => random.below(sent.len() as u64 + 1) as usize,
@@ -186,6 +226,7 @@ pub fn pair(random: &mut Random) -> Pair {
     Pair {
         role,
         strict,
+        allowed,
         normal: link_bytes(random, Link::Normal, &sent[..normal_seen], faults),
         redundant: link_bytes(random, Link::Redundant, &sent[..redundant_seen], faults),
     }
@@ -194,16 +235,18 @@ pub fn pair(random: &mut Random) -> Pair {
 /// A long pair whose numbers pass 65535 one by one, the redundant link a few packets ahead.
 fn wrapping_pair(random: &mut Random, strict: bool) -> Pair {
     let role = some_role(random);
-    let mut sent = vec![first_meant(random, role)];
+    let ours = random.count();
+    let allowed = Allowed { ours, callers: random.bytes(3 * packet::ID) };
+    let mut sent = vec![first_meant(random, role, &allowed)];
     for number in 1..65_600_u32 {
         let length = random.pick(&[0, 0, 0, 1, 5]);
         sent.push(Meant { kind: packet::DATA, number: number as u16, data: random.bytes(length) });
     }
     let bytes = |random: &mut Random, link: Link, sent: &[Meant]| {
-        let none = Faults { link: 0, dropped: 0, lost: 0, repeated: 0 };
+        let none = Faults { link: 0, dropped: 0, unwelcome: 0, lost: 0, repeated: 0 };
         sent.iter().flat_map(|meant| on_link(random, link, meant, none)).collect()
     };
-    Pair { role, strict, normal: bytes(random, Link::Normal, &sent[..65_590]), redundant: bytes(random, Link::Redundant, &sent) }
+    Pair { role, strict, allowed, normal: bytes(random, Link::Normal, &sent[..65_590]), redundant: bytes(random, Link::Redundant, &sent) }
 }
 
 fn role_name(role: Role) -> &'static str {
@@ -217,7 +260,19 @@ fn strict_name(strict: bool) -> &'static str {
     if strict { "strict" } else { "loose" }
 }
 
-/// Writes the pairs NAME.normal and NAME.redundant and the file `list` with lines NAME role strict;
+/// The words of `cut` for a pair, but for its files: role, setting, and for a responder our own id and the callers.
+fn words_of(pair: &Pair) -> String {
+    let mut words = format!("{} {}", role_name(pair.role), strict_name(pair.strict));
+    if pair.role == Role::Responder {
+        words.push_str(&format!(" {:08X}", pair.allowed.ours));
+        for entry in pair.allowed.callers.chunks_exact(packet::ID) {
+            words.push_str(&format!(" {}", hex(entry)));
+        }
+    }
+    words
+}
+
+/// Writes the pairs NAME.normal and NAME.redundant and the file `list` with lines NAME role strict [OURS CALLER ..];
 /// returns how often each answer occurred. The first two pairs are the long ones.
 pub fn write_streams(seed: u64, count: usize, folder: &Path) -> std::io::Result<BTreeMap<String, usize>> {
     let mut random = Random::new(seed);
@@ -233,8 +288,9 @@ pub fn write_streams(seed: u64, count: usize, folder: &Path) -> std::io::Result<
         let name = format!("{at:05}");
         std::fs::write(folder.join(format!("{name}.normal")), &made.normal)?;
         std::fs::write(folder.join(format!("{name}.redundant")), &made.redundant)?;
-        list.push_str(&format!("{name} {} {}\n", role_name(made.role), strict_name(made.strict)));
-        for line in links::cut(made.role, made.strict, &made.normal, &made.redundant).lines().skip(1) {
+        list.push_str(&format!("{name} {}\n", words_of(&made)));
+        let known = Known { ours: made.allowed.ours, callers: &made.allowed.callers };
+        for line in links::cut(made.role, made.strict, known, &made.normal, &made.redundant).lines().skip(1) {
             if let Some(answer) = line.split(' ').nth(1).filter(|_| !line.starts_with("end")) {
                 *answers.entry(answer.to_string()).or_insert(0) += 1;
             }
@@ -252,7 +308,7 @@ pub fn hex(bytes: &[u8]) -> String {
     bytes.iter().map(|byte| format!("{byte:02X}")).collect()
 }
 
-pub const STEPS_HEADER: &str = "normal_up redundant_up role strict first last normal_place normal redundant_place redundant = \
+pub const STEPS_HEADER: &str = "normal_up redundant_up role strict first last normal_place normal redundant_place redundant ours callers = \
      answer link used version application type number data normal_up redundant_up first last";
 
 /// A place: mostly where the packets begin, sometimes elsewhere or past the end.
@@ -274,15 +330,16 @@ fn short_link(random: &mut Random, link: Link, sent: &[Meant], faults: Faults) -
     (bytes, place)
 }
 
-/// A state near the packet that stands first: every d on both sides of each bound.
+/// A state near the packet that stands first: every d on both sides of each bound, and mostly awaited where it is one that opens.
 fn some_state(random: &mut Random, role: Role, meant: &Meant) -> State {
     let d = random.pick(&[0, 1, 1, 1, 2, 3, 32766, 32767, 32768, 32769, 65535]);
+    let opens = meant.kind == packet::AU1 || meant.kind == packet::AU2;
     State {
         normal_up: !random.once_in(4),
         redundant_up: !random.once_in(4),
         role,
         strict: random.once_in(2),
-        first: random.once_in(3),
+        first: if opens { !random.once_in(4) } else { random.once_in(4) },
         last: if random.once_in(10) { random.number() } else { meant.number.wrapping_sub(d) },
     }
 }
@@ -294,11 +351,13 @@ pub struct Trial {
     normal_place: usize,
     redundant: Vec<u8>,
     redundant_place: usize,
+    allowed: Allowed,
 }
 
 impl Trial {
     fn step(&self) -> (State, links::Step<'_>) {
-        links::step(self.state, &self.normal, self.normal_place, &self.redundant, self.redundant_place)
+        let known = Known { ours: self.allowed.ours, callers: &self.allowed.callers };
+        links::step(self.state, known, (&self.normal, self.normal_place), (&self.redundant, self.redundant_place))
     }
 
     /// What goes in, `=`, what comes back, for a person.
@@ -306,9 +365,10 @@ impl Trial {
         let (after, step) = self.step();
         let (state, taken) = (self.state, taken_of(&step));
         let given = format!(
-            "{} {} {} {} {} {} {} {} {} {}",
+            "{} {} {} {} {} {} {} {} {} {} {:08X} {}",
             u8::from(state.normal_up), u8::from(state.redundant_up), role_name(state.role), strict_name(state.strict), u8::from(state.first),
-            state.last, self.normal_place, hex(&self.normal), self.redundant_place, hex(&self.redundant)
+            state.last, self.normal_place, hex(&self.normal), self.redundant_place, hex(&self.redundant),
+            self.allowed.ours, hex(&self.allowed.callers)
         );
         format!(
             "{given} = {} {} {} {} {} {} {} {} {}",
@@ -317,7 +377,8 @@ impl Trial {
     }
 
     /// The step in the file that the Rattle program `single steps` reads: flags 1 (1 normal link up, 2 redundant link up, 4 responder, 8 strict,
-    /// 16 first packet), last number 2, normal place 4, redundant place 4, normal size 2, redundant size 2, the bytes of both links.
+    /// 16 first packet), last number 2, normal place 4, redundant place 4, our own id 4, normal size 2, redundant size 2, size of the list 2,
+    /// the bytes of both links, those of the list.
     pub fn bytes(&self) -> Vec<u8> {
         let state = self.state;
         let flags = [state.normal_up, state.redundant_up, state.role == Role::Responder, state.strict, state.first];
@@ -325,10 +386,10 @@ impl Trial {
         bytes.extend(state.last.to_be_bytes());
         bytes.extend((self.normal_place as u32).to_be_bytes());
         bytes.extend((self.redundant_place as u32).to_be_bytes());
-        bytes.extend((self.normal.len() as u16).to_be_bytes());
-        bytes.extend((self.redundant.len() as u16).to_be_bytes());
-        bytes.extend(&self.normal);
-        bytes.extend(&self.redundant);
+        bytes.extend(self.allowed.ours.to_be_bytes());
+        let lent = [&self.normal, &self.redundant, &self.allowed.callers];
+        bytes.extend(lent.iter().flat_map(|part| (part.len() as u16).to_be_bytes()));
+        bytes.extend(lent.into_iter().flatten());
         bytes
     }
 
@@ -354,12 +415,14 @@ pub fn given(rest: &[u8]) -> Option<(Trial, &[u8])> {
     let mut fields = Fields(rest);
     let (flags, last) = (fields.byte()?, fields.number()?);
     let (normal_place, redundant_place) = (fields.count()? as usize, fields.count()? as usize);
-    let (normal, redundant) = (usize::from(fields.number()?), usize::from(fields.number()?));
+    let ours = fields.count()?;
+    let (normal, redundant, callers) = (usize::from(fields.number()?), usize::from(fields.number()?), usize::from(fields.number()?));
     let set = |bit: u8| flags >> bit & 1 == 1;
     let role = if set(2) { Role::Responder } else { Role::Initiator };
     let state = State { normal_up: set(0), redundant_up: set(1), role, strict: set(3), first: set(4), last };
-    let trial = Trial { state, normal: fields.bytes(normal)?.to_vec(), normal_place, redundant: fields.bytes(redundant)?.to_vec(), redundant_place };
-    Some((trial, fields.0))
+    let (normal, redundant) = (fields.bytes(normal)?.to_vec(), fields.bytes(redundant)?.to_vec());
+    let allowed = Allowed { ours, callers: fields.bytes(callers)?.to_vec() };
+    Some((Trial { state, normal, normal_place, redundant, redundant_place, allowed }, fields.0))
 }
 
 fn taken_of<'a>(step: &links::Step<'a>) -> Packet<'a> {
@@ -371,15 +434,16 @@ fn state_text(state: &State) -> String {
 }
 
 fn some_trial(random: &mut Random) -> Trial {
-    let faults = Faults { link: random.pick(&[0, 6]), dropped: random.pick(&[0, 3]), lost: 0, repeated: 0 };
+    let faults = Faults { link: random.pick(&[0, 6]), dropped: random.pick(&[0, 3]), unwelcome: random.pick(&[0, 2]), lost: 0, repeated: 0 };
     let role = some_role(random);
-    let mut sent = conversation(random, role, 2, faults);
-    let begins = random.below(sent.len() as u64) as usize;
+    let allowed = callers::some_lent(random);
+    let mut sent = conversation(random, role, &allowed, 2, faults);
+    let begins = if random.once_in(3) { 0 } else { random.below(sent.len() as u64) as usize };
     sent.drain(..begins);
     let state = some_state(random, role, &sent[0]);
     let (normal, normal_place) = short_link(random, Link::Normal, &sent, faults);
     let (redundant, redundant_place) = short_link(random, Link::Redundant, &sent, faults);
-    Trial { state, normal, normal_place, redundant, redundant_place }
+    Trial { state, normal, normal_place, redundant, redundant_place, allowed }
 }
 
 /// So many random steps.
