@@ -71,14 +71,14 @@ module _ (link : Bool) (s : List ℕ) (at : ℕ) (callers : List ℕ) (ours : �
 
 module _ (normal : List ℕ) (normalAt : ℕ) (redundant : List ℕ) (redundantAt : ℕ) (callers : List ℕ) (ours : ℕ) (state : State) where
   -- what the rows of the link looked at give, the step takes
-  pub by-link : (link : Bool) (t : Taken) → looksAt normal normalAt redundant redundantAt callers ours state link ≡ true
+  pub looked-at : (link : Bool) (t : Taken) → looksAt normal normalAt redundant redundantAt callers ours state link ≡ true
       → (bothDown state ≡ false → t ≡ rowsOf true link (ofLink link normal redundant) (ofLink link normalAt redundantAt) callers ours state)
       → takenOf normal normalAt redundant redundantAt callers ours state ≡ t
-  by-link true t looks rows =
+  looked-at true t looks rows =
       sym
       (rows (normal-up state (both-true (state .«normal_up») (judgeable normal normalAt) looks .0))
       ∙ at-normal normal normalAt redundant redundantAt callers ours state looks)
-  by-link false t looks rows =
+  looked-at false t looks rows =
       let b = both-true (not (held (state .«normal_up») normal normalAt)) (held (state .«redundant_up») redundant redundantAt) looks in
       sym
       (rows (redundant-up state (both-true (state .«redundant_up») (judgeable redundant redundantAt) (b .1) .0))
@@ -88,7 +88,7 @@ module _ (normal : List ℕ) (normalAt : ℕ) (redundant : List ℕ) (redundantA
   loose-hands-up link looks p k f loose l h =
       let s = ofLink link normal redundant in
       let at = ofLink link normalAt redundantAt in
-      by-link link (handedUp link at (packetHeaderAt s at) state) looks (loose-row link s at callers ours state p k f loose l h)
+      looked-at link (handedUp link at (packetHeaderAt s at) state) looks (loose-row link s at callers ours state p k f loose l h)
 
 -- ---- written back
 

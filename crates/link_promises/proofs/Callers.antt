@@ -28,7 +28,7 @@ use Rattle.links.proofs.LinkRows.{row-class}
 use Rattle.link_promises.specs.Promises.{ofLink}
 use Rattle.link_promises.specs.Callers.{ListHoldsItsIds, SameIds, SameStep, OnlyIdsCount, OrderMakesNoDifference, TwiceMakesNoDifference, OthersNotJudged}
 use Rattle.link_promises.specs.Callers.{Lent, takenBy, dataBy, stateAfter, NoneHandsUp, KnownCall, KnownCallFirst, EmptyLists, EmptyLetsNobodyIn, KnownCallLetIn}
-use Rattle.link_promises.proofs.Accepted.{right-length, by-link}
+use Rattle.link_promises.proofs.Accepted.{right-length, looked-at}
 use Rattle.link_promises.proofs.Outcome.{Accepted, by-step}
 use Rattle.link_promises.proofs.Promises.{data-of-packet}
 
@@ -271,7 +271,7 @@ known-call-let-in lent state link looks p first responder kind fault on-list cal
     let at = ofLink link (lent .normalAt) (lent .redundantAt) in
     let h = packetHeaderAt s at in
     let u = userDataAt s at in
-    by-link (lent .normal) (lent .normalAt) (lent .redundant) (lent .redundantAt) (lent .callers) (lent .ours) state link (handedUp link at h state) looks (λ b.
+    looked-at (lent .normal) (lent .normalAt) (lent .redundant) (lent .redundantAt) (lent .callers) (lent .ours) state link (handedUp link at h state) looks (λ b.
     row-allowed link at h u (lent .callers) (lent .ours) state (subst (λ (k : ℕ). inClassD k ≡ true) (sym kind) au1-in-class-d) first
     (subst (λ (r : Bool). notOpening r h u ≡ false) (sym responder) (au1-opens h u kind fault)) responder (in-allowed (lent .callers) (lent .ours) u on-list calls-us)
     ∙ row-class link s at state (classDRows link at h u (lent .callers) (lent .ours) state) b (right-length link s at p) (p .right) (p .flagged))

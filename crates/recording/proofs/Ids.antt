@@ -2,27 +2,34 @@
 -- Assumes nothing.
 use Prim.Native.Nat.{ℕ, suc, _+_, _*_, _≤_, _<_}
 use mathlib.Core.Path.{_≡_, refl, sym, ap, _∙_}
-use mathlib.Core.Bool.{Bool, true, false, not, _&&_}
+use mathlib.Core.Bool.{Bool, true, false, not, _&&_, and-false}
 use mathlib.Core.List.{List, [], _∷_}
 use native.Mathlib.Omega.{arith}
-use borrow.Author.Tests.{eq-eqb, ne-eqb, leb-true}
-use lib.Dec.{eqb, ltb, leb}
+use borrow.Author.Tests.{eq-eqb, ne-eqb, le-leb, lt-leb, leb-true}
+use lib.Dec.{eqb, leb}
 use lib.ListN.{length, getD, drop, drop-of-length-le}
 use lib.Seq.{drop-cons}
-use Rattle.links.proofs.Bools.{by-row}
+use Rattle.links.proofs.Bools.{both-true, by-row}
 use Rattle.recording.specs.declared.Id.{Id}
-use Rattle.recording.specs.Ids.{digitValue, allDigits, numberBehind, idDigits, noId, idOf}
+use Rattle.recording.specs.Ids.{between, digitValue, allDigits, numberBehind, idDigits, noId, idOf}
 
 -- no byte has a greater value
 pub value-most : (byte : ℕ) → digitValue byte ≤ 16
 unfolding digitValue
 value-most byte =
-    by-row (λ (n : ℕ). n ≤ 16) (ltb byte 48) (λ e. omega arith) (λ e.
-    by-row (λ (n : ℕ). n ≤ 16) (leb byte 57) (λ h. let most = leb-true byte 57 h in omega arith) (λ e.
-    by-row (λ (n : ℕ). n ≤ 16) (ltb byte 65) (λ e. omega arith) (λ e.
-    by-row (λ (n : ℕ). n ≤ 16) (leb byte 70) (λ h. let most = leb-true byte 70 h in omega arith) (λ e.
-    by-row (λ (n : ℕ). n ≤ 16) (ltb byte 97) (λ e. omega arith) (λ e.
-    by-row (λ (n : ℕ). n ≤ 16) (leb byte 102) (λ h. let most = leb-true byte 102 h in omega arith) (λ e. omega arith))))))
+    by-row (λ (n : ℕ). n ≤ 16) (between 48 57 byte) (λ e. let most = leb-true byte 57 (both-true (leb 48 byte) (leb byte 57) e .1) in omega arith) (λ e.
+    by-row (λ (n : ℕ). n ≤ 16) (between 65 70 byte) (λ e. let most = leb-true byte 70 (both-true (leb 65 byte) (leb byte 70) e .1) in omega arith) (λ e.
+    by-row (λ (n : ℕ). n ≤ 16) (between 97 102 byte) (λ e. let most = leb-true byte 102 (both-true (leb 97 byte) (leb byte 102) e .1) in omega arith) (λ e. omega arith)))
+
+-- a byte below a range, within it, above it:
+pub below : (least most byte : ℕ) → byte < least → between least most byte ≡ false
+below least most byte h = simp (lt-leb least byte h)
+
+pub within-range : (least most byte : ℕ) → least ≤ byte → byte ≤ most → between least most byte ≡ true
+within-range least most byte l h = simp (le-leb least byte l, le-leb byte most h)
+
+pub above : (least most byte : ℕ) → most < byte → between least most byte ≡ false
+above least most byte h = ap (λ (b : Bool). leb least byte && b) (lt-leb byte most h) ∙ and-false (leb least byte)
 
 -- a word of the right length
 module _ (word : List ℕ) where

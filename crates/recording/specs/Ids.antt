@@ -3,20 +3,21 @@
 use Prim.Native.Nat.{ℕ, _+_, _*_, _-_}
 use mathlib.Core.Bool.{Bool, true, false, not, _&&_}
 use mathlib.Core.List.{List, [], _∷_}
-use lib.Dec.{eqb, ltb, leb}
+use lib.Dec.{eqb, leb}
 use lib.ListN.{length}
 use Rattle.rules.specs.Rows.{when_answer_else_}
 use Rattle.recording.specs.declared.Id.{Id}
 
+-- CUT-5: a byte is one of a range
+abbrev pub between : ℕ → ℕ → ℕ → Bool
+between least most byte = leb least byte && leb byte most
+
 -- CUT-5: the value of a digit, 0 to 9, A to F or a to f, which are the bytes 48 to 57, 65 to 70 and 97 to 102; 16 for any other byte
 unfoldable pub digitValue : ℕ → ℕ
 digitValue byte =
-    when (ltb byte 48) answer 16 else
-    when (leb byte 57) answer byte - 48 else
-    when (ltb byte 65) answer 16 else
-    when (leb byte 70) answer byte - 65 + 10 else
-    when (ltb byte 97) answer 16 else
-    when (leb byte 102) answer byte - 97 + 10 else
+    when (between 48 57 byte) answer byte - 48 else
+    when (between 65 70 byte) answer byte - 65 + 10 else
+    when (between 97 102 byte) answer byte - 97 + 10 else
     16
 
 -- CUT-5: every byte is a digit
