@@ -42,8 +42,8 @@ all (b ∷ bs) = b && all bs
 
 abbrev pub bounds : List Bool
 bounds =
-    -- length 7, 8; 1,032, 1,033
-    lengthFault 7 ∷ not (lengthFault 8) ∷ not (lengthFault 1032) ∷ lengthFault 1033
+    -- length 7, 8; 65,008, 65,009
+    lengthFault 7 ∷ not (lengthFault 8) ∷ not (lengthFault 65008) ∷ lengthFault 65009
     -- type 4, 5; 251
     ∷ eqb (laterAnswer true 0 4 1) 0 ∷ eqb (laterAnswer true 0 5 1) 305 ∷ eqb (laterAnswer true 0 251 1) 305
     -- AU1 with 8 bytes, with 9 of class 3, of class 0, numbered 1; to the initiator

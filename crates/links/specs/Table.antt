@@ -23,7 +23,7 @@ use Rattle.links.specs.Callers.{notAllowed}
 abbrev pub lengthAt : List ℕ → ℕ → ℕ
 lengthAt s at = fieldOf s at lengthSize
 
--- LINK-302: under 8 or over 1,032
+-- LINK-302: under the least length, or over the most
 unfoldable pub lengthFault : ℕ → Bool
 lengthFault length = ltb length leastLength || ltb mostLength length
 

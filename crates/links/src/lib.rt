@@ -117,7 +117,7 @@ fn handed_up(normal: bool, at: usize, header: Header, state: State) -> Taken
     }
 }
 
-// LINK-302: under 8 or over 1,032.
+// LINK-302: under the least length, or over the most.
 fn length_fault(length: u16) -> bool
     ensures { λ r. ⌜ r ≡ lengthFault length ⌝ }
 {

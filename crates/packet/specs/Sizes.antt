@@ -16,9 +16,9 @@ leastLength = 8
 
 -- PKT-LEN: the most bytes of user data
 abbrev pub mostUserData : ℕ
-mostUserData = 1024
+mostUserData = 65000
 
--- PKT-LEN: 1,032
+-- PKT-LEN: 65,008
 abbrev pub mostLength : ℕ
 mostLength = leastLength + mostUserData
 
@@ -26,7 +26,7 @@ mostLength = leastLength + mostUserData
 abbrev pub packetSize : ℕ → ℕ
 packetSize length = length + lengthSize
 
--- PKT-LEN: the most bytes of a packet, 1,034; LINK-SEEN: a step sees no more of a link
+-- PKT-LEN: the most bytes of a packet, 65,010; LINK-SEEN: a step sees no more of a link
 abbrev pub mostPacket : ℕ
 mostPacket = packetSize mostLength
 

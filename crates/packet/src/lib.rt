@@ -24,7 +24,7 @@ pub const PACKET_HEADER_SIZE: usize = 10;
 
 pub const LEAST_LENGTH: u16 = 8;
 
-pub const MOST_USER_DATA: usize = 1024;
+pub const MOST_USER_DATA: usize = 65000;
 
 pub const MOST_LENGTH: u16 = LEAST_LENGTH + MOST_USER_DATA as u16;
 

@@ -11,14 +11,18 @@ use Rattle.packet.specs.Sizes.{packetHeaderSize, mostUserData}
 use Rattle.packet_types.specs.Types.{dataPacket, turnToRedundant, classesOf, leastOf, inClassD, opens, openingFault, notClassD}
 use Rattle.packet_writing.specs.Writing.{writeAnswer}
 
--- user data of 1,024 and 1,025 bytes, in a data packet with any number and room enough
-pub data-1024 : (number : ℕ) (userData : List ℕ) → length userData ≡ 1024 → writeAnswer 2000 number dataPacket userData ≡ 0
+-- user data of 65,000 and 65,001 bytes, in a data packet with any number and room for it all; 65,000 with room for one byte less
+pub data-65000 : (number : ℕ) (userData : List ℕ) → length userData ≡ 65000 → writeAnswer 65010 number dataPacket userData ≡ 0
 unfolding writeAnswer notClassD inClassD classesOf opens
-data-1024 number userData e = simp e
+data-65000 number userData e = simp e
 
-pub data-1025 : (number : ℕ) (userData : List ℕ) → length userData ≡ 1025 → writeAnswer 2000 number dataPacket userData ≡ 312
+pub data-65001 : (number : ℕ) (userData : List ℕ) → length userData ≡ 65001 → writeAnswer 65011 number dataPacket userData ≡ 312
 unfolding writeAnswer notClassD inClassD classesOf opens
-data-1025 number userData e = simp e
+data-65001 number userData e = simp e
+
+pub long-one-less : (number : ℕ) (userData : List ℕ) → length userData ≡ 65000 → writeAnswer 65009 number dataPacket userData ≡ 313
+unfolding writeAnswer notClassD inClassD classesOf opens
+long-one-less number userData e = simp e
 
 -- an out buffer of 10 + data bytes, and one byte less
 pub room-10-and-data : (number : ℕ) (userData : List ℕ) → length userData ≤ mostUserData → writeAnswer (packetHeaderSize + length userData) number dataPacket userData ≡ 0
@@ -57,10 +61,10 @@ unfolding writeAnswer notClassD inClassD classesOf opens openingFault leastOf fi
 type-cases = refl
 
 -- 311 before 312, and 312 before 313
-pub first-311 : (userData : List ℕ) → length userData ≡ 1025 → writeAnswer 0 0 turnToRedundant userData ≡ 311
+pub first-311 : (userData : List ℕ) → length userData ≡ 65001 → writeAnswer 0 0 turnToRedundant userData ≡ 311
 unfolding writeAnswer notClassD inClassD classesOf opens
 first-311 userData e = refl
 
-pub then-312 : (userData : List ℕ) → length userData ≡ 1025 → writeAnswer 0 0 dataPacket userData ≡ 312
+pub then-312 : (userData : List ℕ) → length userData ≡ 65001 → writeAnswer 0 0 dataPacket userData ≡ 312
 unfolding writeAnswer notClassD inClassD classesOf opens
 then-312 userData e = simp e
