@@ -4,10 +4,11 @@ ghost use mathlib.Core.Bool.{true, false};
 ghost use Prim.Native.Nat.{_+_, _^_, _≤_, _<_};
 ghost use lib.ListN.{length};
 ghost use Rattle.window.specs.Window.{Within};
+ghost use Rattle.window.specs.MovedOnce.{RoomForTwo};
 ghost use Rattle.packet.specs.Sizes.{mostPacket};
 ghost use Rattle.recording.specs.Printed.{mostLine};
 ghost use Rattle.recording.specs.Progress.{Lies};
-ghost use Rattle.recording.specs.Whole.{BothToppedUp, TurnOf, PrintedToTheEnd, PrintedWhole, Headed};
+ghost use Rattle.recording.specs.Whole.{BothToppedUp, TurnOf, PrintedToTheEnd, PrintedWhole, BothHaveRoom, BothMovedNoMore, Headed};
 use links::State;
 use packet::MOST_PACKET;
 use packet_types::ID_SIZE;
@@ -20,6 +21,9 @@ use window::Refilled;
 
 // The longest word that an argument is held against has fewer bytes.
 const MOST_WORD: usize = 16;
+
+// CUT-6: how many bytes a link's buffer has: two of the longest packets, so that none is moved twice, and more, so that few are moved.
+const LINK_BUFFER: usize = 262144;
 
 // CUT-5: the places of our own id and of the first caller's among the arguments.
 const OURS: usize = 5;
@@ -76,7 +80,7 @@ fn both_topped_up(
     p: Progress,
 ) -> Windows
     requires { ⌜ Lies p (length (now normal)) (length (now redundant)) ⌝ }
-    requires { ⌜ (mostPacket ≤ length (now normal)) × (mostPacket ≤ length (now redundant)) ⌝ }
+    requires { ⌜ BothHaveRoom (length (now normal)) (length (now redundant)) ⌝ }
     ensures { λ r. ⌜ (r .failed ≡ false → BothToppedUp (now (normal .entry)) (now (redundant .entry)) p
         (now (normal .exit)) (now (redundant .exit)) (r .normal) (r .redundant)
         × Within (r .normal .window) (length (now (normal .entry))) × Within (r .redundant .window) (length (now (redundant .entry)))) ⌝ }
@@ -128,7 +132,7 @@ fn put_last(out: &mut [u8], was: Advanced, callers: &[u8], ours: u32, state: Sta
     finish(out, end, callers, ours, state);
 }
 
-// One turn: room for a line, the windows topped up, and a step with its line.
+// One turn: room for a line, the windows topped up, and a step with its line. CUT-6: refills move no more bytes than they read.
 fn turn(
     files: Files,
     normal_name: &[u8],
@@ -141,13 +145,15 @@ fn turn(
     was: Advanced,
 ) -> Turned
     requires { ⌜ Lies (was .progress) (length (now normal)) (length (now redundant)) ⌝ }
-    requires { ⌜ (mostPacket ≤ length (now normal)) × (mostPacket ≤ length (now redundant)) ⌝ }
+    requires { ⌜ BothHaveRoom (length (now normal)) (length (now redundant)) ⌝ }
     requires { ⌜ (was .next ≤ length (now out)) × (mostLine ≤ length (now out)) ⌝ }
     requires { ⌜ was .progress .«handed_up» + 1 < 2 ^ 64 ⌝ }
+    requires { ⌜ BothMovedNoMore (was .progress) (length (now normal)) (length (now redundant)) ⌝ }
     ensures { λ r. ⌜ (r .failed ≡ false → TurnOf (now (normal .entry)) (now (redundant .entry)) (now (callers .entry)) ours (was .progress)
         (now (out .entry)) (was .next) (now (normal .exit)) (now (redundant .exit)) (now (out .exit)) (r .advanced)
         × Lies (r .advanced .progress) (length (now (normal .entry))) (length (now (redundant .entry)))
-        × (r .advanced .next ≤ length (now (out .entry))) × (r .advanced .progress .«handed_up» ≤ was .progress .«handed_up» + 1)) ⌝ }
+        × (r .advanced .next ≤ length (now (out .entry))) × (r .advanced .progress .«handed_up» ≤ was .progress .«handed_up» + 1)
+        × BothMovedNoMore (r .advanced .progress) (length (now (normal .entry))) (length (now (redundant .entry)))) ⌝ }
 {
     let place = text::make_room(out, was.next, MOST_LINE);
     if place.failed {
@@ -222,7 +228,7 @@ fn print_all(
     ours: u32,
     state: State,
 )
-    requires { ⌜ (mostPacket ≤ length (now normal)) × (mostPacket ≤ length (now redundant)) ⌝ }
+    requires { ⌜ BothHaveRoom (length (now normal)) (length (now redundant)) ⌝ }
     requires { ⌜ mostLine ≤ length (now out) ⌝ }
 {
     let at = recording::put_heading(out, 0);
@@ -240,6 +246,14 @@ fn print_all(
     );
 }
 
+// CUT-6: a link's buffer. The first `ensures` gives the length, which lending it asks for.
+fn link_buffer() -> [u8; LINK_BUFFER]
+    ensures { λ r. ⌜ 262144 ≡ length r ⌝ }
+    ensures { λ r. ⌜ RoomForTwo mostPacket (length r) ⌝ }
+{
+    [0; LINK_BUFFER]
+}
+
 // The buffers of two open files.
 fn cut_files(
     files: Files,
@@ -249,8 +263,8 @@ fn cut_files(
     ours: u32,
     state: State,
 ) {
-    let mut normal = io::large_buffer();
-    let mut redundant = io::large_buffer();
+    let mut normal = link_buffer();
+    let mut redundant = link_buffer();
     let mut out = io::large_buffer();
     print_all(
         files,

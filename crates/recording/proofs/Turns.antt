@@ -4,6 +4,7 @@ use Prim.Native.Nat.{ℕ, _≤_}
 use mathlib.Core.Path.{_≡_, refl, sym, ap, subst, _∙_}
 use mathlib.Core.Bool.{Bool, true, false, false≢true}
 use mathlib.Core.List.{List, [], _++_, append-assoc, append-nil}
+use native.Mathlib.Omega.{arith}
 use lib.ListN.{length, take}
 use Rattle.text.specs.Text.{PutAt, placeOf}
 use Rattle.text.proofs.Places.{placed, put-behind}
@@ -11,18 +12,20 @@ use Rattle.window.specs.Window.{lowOf, wasRead, ToppedUp}
 use Rattle.window.specs.declared.Window.{Window}
 use Rattle.window.specs.declared.Refilled.{Refilled}
 use Rattle.window.proofs.Unread.{low-not-ended}
+use Rattle.window.proofs.MovedOnce.{none-moved, moved-topped-up, moved-used}
 use Rattle.packet.specs.Sizes.{mostPacket}
 use Rattle.links.specs.declared.State.{State}
 use Rattle.links.specs.declared.Taken.{Taken}
 use Rattle.text.specs.Line.{endOf}
 use Rattle.recording.specs.Printed.{heading, lineOf, mostLine}
-use Rattle.recording.specs.Progress.{startOf, windowed, takenAt, steppedOf}
+use Rattle.recording.specs.Progress.{startOf, windowed, takenAt, steppedOf, UsesNoMore, Lies}
 use Rattle.recording.specs.Cut.{cutOf}
-use Rattle.recording.specs.Whole.{Reads, Cuts, TurnOf, Cutting, PrintedToTheEnd, PrintedWhole}
+use Rattle.recording.specs.Whole.{Reads, Cuts, TurnOf, Cutting, PrintedToTheEnd, PrintedWhole, BothHaveRoom, BothMovedNoMore}
 use Rattle.recording.specs.Whole.Reads.{stays, refills}
 use Rattle.recording.specs.Whole.Cuts.{starts, reads, steps}
 use Rattle.recording.specs.declared.Progress.{Progress}
 use Rattle.recording.specs.declared.Advanced.{Advanced}
+use Rattle.recording.proofs.Windows.{uses}
 use Rattle.recording.proofs.Whole.{pieces-as-whole}
 
 -- What topping a window up has read, so that with any bytes that follow it is one of the ways in which a file is read.
@@ -63,6 +66,11 @@ cutting-first callers ours state normal redundant {p} {out} {at} start headed = 
       (subst (λ (q : Progress). Cuts callers ours state normalRest redundantRest normal redundant q normalRest redundantRest heading) (sym start) (starts normal redundant));
 }
 
+-- CUT-6: before the first turn no byte was moved
+pub moved-first : (state : State) (normal redundant : ℕ) {p : Progress} → p ≡ startOf state → BothMovedNoMore p normal redundant
+moved-first state normal redundant e =
+    (none-moved mostPacket normal (ap (λ (p : Progress). p .normal) e), none-moved mostPacket redundant (ap (λ (p : Progress). p .redundant) e))
+
 -- a step changes nothing of a window but where it starts
 ended-stays : (taken : Taken) (p : Progress) → (steppedOf taken p .normal .ended ≡ p .normal .ended) × (steppedOf taken p .redundant .ended ≡ p .redundant .ended)
 unfolding steppedOf
@@ -71,6 +79,15 @@ ended-stays taken p = by (taken .normal) refl
     by : (link : Bool) → taken .normal ≡ link → (steppedOf taken p .normal .ended ≡ p .normal .ended) × (steppedOf taken p .redundant .ended ≡ p .redundant .ended)
     by true e = rw e (refl, refl)
     by false e = rw e (refl, refl)
+
+-- a step uses bytes of one window
+step-moves : (p : Progress) (taken : Taken) (normal redundant : ℕ) → UsesNoMore taken p → BothMovedNoMore p normal redundant → BothMovedNoMore (steppedOf taken p) normal redundant
+unfolding steppedOf
+step-moves p taken normal redundant used was = by (taken .normal) refl
+  where
+    by : (link : Bool) → taken .normal ≡ link → BothMovedNoMore (steppedOf taken p) normal redundant
+    by true e = rw e (moved-used mostPacket normal (taken .used) (p .normal) (used .0 e) (was .0), was .1)
+    by false e = rw e (was .0, moved-used mostPacket redundant (taken .used) (p .redundant) (used .1 e) (was .1))
 
 -- a turn carries the cutting on
 module _ (callers : List ℕ) (ours : ℕ) (state : State) (normal redundant : List ℕ) (p : Progress) (out : List ℕ) (at : ℕ) (normalAfter redundantAfter outAfter : List ℕ) (a : Advanced)
@@ -108,6 +125,20 @@ module _ (callers : List ℕ) (ours : ℕ) (state : State) (normal redundant : L
             (subst (λ (l : List ℕ). Cuts callers ours state (was .normalRead ++ (n .read ++ normalRest)) (was .redundantRead ++ (r .read ++ redundantRest)) normalAfter redundantAfter (steppedOf taken lent) normalRest redundantRest l)
             (sym (put-behind place (turn .advanced .put) within)) run)));
       }
+
+-- CUT-6: the refills of a turn move no more bytes than they read
+pub turn-moves : (callers : List ℕ) (ours : ℕ) (normal redundant : List ℕ) (p : Progress) (out : List ℕ) (at : ℕ) (normalAfter redundantAfter outAfter : List ℕ) (a : Advanced)
+    → TurnOf normal redundant callers ours p out at normalAfter redundantAfter outAfter a → length normalAfter ≡ length normal → length redundantAfter ≡ length redundant
+    → BothHaveRoom (length normal) (length redundant) → Lies p (length normal) (length redundant) → BothMovedNoMore p (length normal) (length redundant)
+    → BothMovedNoMore (a .progress) (length normal) (length redundant)
+turn-moves callers ours normal redundant p out at normalAfter redundantAfter outAfter a turn normalSize redundantSize room lies was =
+    let n = moved-topped-up mostPacket normal (p .normal) normalAfter (turn .first) (room .0) (turn .up .up-normal) (turn .up .read-normal) (lies .0) (was .0) in
+    let r = moved-topped-up mostPacket redundant (p .redundant) redundantAfter (turn .second) (room .1) (turn .up .up-redundant) (turn .up .read-redundant) (lies .1) (was .1) in
+    let lent = windowed (turn .first .window) (turn .second .window) p in
+    let liesLent : Lies lent (length normalAfter) (length redundantAfter) = ((n .1 .0, omega (arith, n .1 .1, normalSize)), (r .1 .0, omega (arith, r .1 .1, redundantSize))) in
+    let taken = takenAt normalAfter redundantAfter callers ours lent in
+    let used = uses normalAfter redundantAfter callers ours lent {taken = taken} liesLent refl in
+    subst (λ (q : Progress). BothMovedNoMore q (length normal) (length redundant)) (sym (turn .advanced .progress)) (step-moves lent taken _ _ used (n .0, r .0))
 
 -- after the last step only the last line is left to print
 pub printed-to-the-end : (callers : List ℕ) (ours : ℕ) (state : State) (normal redundant : List ℕ) (p : Progress) (out : List ℕ) (at : ℕ) → Cutting callers ours state normal redundant p out at → p .last ≡ true

@@ -7,6 +7,7 @@ use mathlib.Core.List.{List, [], _++_}
 use lib.ListN.{length, take, drop}
 use Rattle.text.specs.Text.{placeOf}
 use Rattle.window.specs.Window.{unread, lowOf, RefilledFrom, wasRead, ToppedUp}
+use Rattle.window.specs.MovedOnce.{RoomForTwo, MovedNoMoreThanRead}
 use Rattle.window.specs.declared.Window.{Window}
 use Rattle.window.specs.declared.Refilled.{Refilled}
 use Rattle.packet.specs.Sizes.{mostPacket}
@@ -99,13 +100,15 @@ PiecesAsWhole =
 
 -- What a program does in turn: windows topped up, a step, its line.
 
--- Both windows topped up, so that neither is low.
+-- Both windows topped up, so that neither is low; no read failed.
 pub record BothToppedUp (normal redundant : List ℕ) (p : Progress) (normalAfter redundantAfter : List ℕ) (first second : Refilled)
     : Type 0 where
   pub up-normal : ToppedUp mostPacket normal (p .normal) normalAfter first
   pub up-redundant : ToppedUp mostPacket redundant (p .redundant) redundantAfter second
   pub high-normal : lowOf mostPacket (first .window) ≡ false
   pub high-redundant : lowOf mostPacket (second .window) ≡ false
+  pub read-normal : first .failed ≡ false
+  pub read-redundant : second .failed ≡ false
 
 -- One turn: room for a line; both windows topped up; a step over them, with its line put into the out buffer.
 pub record TurnOf (normal redundant callers : List ℕ) (ours : ℕ) (p : Progress) (out : List ℕ) (at : ℕ)
@@ -144,8 +147,17 @@ pub record PrintedWhole (callers : List ℕ) (ours : ℕ) (state : State) (out :
   pub written : List ℕ
   pub whole : written ++ take at out ≡ cutOf callers ours state normalRead redundantRead
 
--- Before the first turn: each link's buffer has room for a packet and the out buffer for a line, and the out buffer holds the heading.
+-- CUT-6: each link's buffer has room for two of the longest packets
+abbrev pub BothHaveRoom : ℕ → ℕ → Type 0
+BothHaveRoom normal redundant = RoomForTwo mostPacket normal × RoomForTwo mostPacket redundant
+
+-- CUT-6: the windows' refills, within buffers of so many bytes, have moved no more bytes than they have read
+abbrev pub BothMovedNoMore : Progress → ℕ → ℕ → Type 0
+BothMovedNoMore p normal redundant =
+    MovedNoMoreThanRead mostPacket normal (p .normal) × MovedNoMoreThanRead mostPacket redundant (p .redundant)
+
+-- Before the first turn: each link's buffer has room for two packets and the out buffer for a line, and the out buffer holds the heading.
 abbrev pub Headed : List ℕ → List ℕ → List ℕ → ℕ → Type 0
 Headed normal redundant out at =
-    ((mostPacket ≤ length normal) × (mostPacket ≤ length redundant))
+    BothHaveRoom (length normal) (length redundant)
     × ((at ≤ length out) × (mostLine ≤ length out) × (take at out ≡ heading))

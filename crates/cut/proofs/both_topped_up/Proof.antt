@@ -36,6 +36,8 @@ returns-2 c =
         up-redundant = second .ensures .0;
         high-normal = first .ensures .1 .1 read;
         high-redundant = second .ensures .1 .1 ok;
+        read-normal = read;
+        read-redundant = ok;
       },
       first .ensures .1 .0,
       second .ensures .1 .0,

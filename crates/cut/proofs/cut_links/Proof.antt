@@ -1,24 +1,30 @@
 -- `cut::cut_links` is safe and ends, and what it prints is what `cut` prints for the bytes that it read: each turn carries the cutting on. The windows lie
--- within their buffers, the out buffer's place within it, and the packets handed up and the turns left are together below 2 ^ 64. The measure is the number
--- of turns that are left. Assumes nothing.
-use Prim.Native.Nat.{_+_, _^_, _≤_, _<_}
-use mathlib.Core.Path.{_≡_, refl, ap, _∙_}
+-- within their buffers, and their refills have moved no more bytes than they read; the out buffer's place is within it, and the packets handed up and the
+-- turns left are together below 2 ^ 64. The measure is the number of turns that are left. Assumes nothing.
+use Prim.Native.Nat.{ℕ, _+_, _^_, _≤_, _<_}
+use mathlib.Core.Path.{_≡_, refl, sym, ap, subst, _∙_}
 use mathlib.Core.Bool.{false}
 use native.Mathlib.Omega.{arith}
 use lib.ListN.{length}
 use Rattle.window.proofs.Empty.{none-within}
 use Rattle.recording.specs.Progress.{Lies}
 use Rattle.recording.specs.declared.Progress.{Progress}
-use Rattle.recording.specs.Whole.{Cutting}
-use Rattle.recording.proofs.Turns.{cutting-first, turn-cuts, printed-to-the-end}
+use Rattle.recording.specs.Whole.{Cutting, BothMovedNoMore}
+use Rattle.recording.proofs.Turns.{cutting-first, moved-first, turn-cuts, printed-to-the-end}
 use Rattle.cut.proofs.cut_links.Statement.{statement}
 use Rattle.cut.proofs.cut_links.Tie as tie
+
+-- buffers of the same lengths
+as-long : (p : Progress) {normal normal′ redundant redundant′ : ℕ} → normal′ ≡ normal → redundant′ ≡ redundant → BothMovedNoMore p normal redundant → BothMovedNoMore p normal′ redundant′
+as-long p {normal} {normal′} {redundant} {redundant′} n r moved =
+    subst (λ (m : ℕ). BothMovedNoMore p m redundant′) (sym n) (subst (λ (m : ℕ). BothMovedNoMore p normal m) (sym r) moved)
 
 abbrev Inv-loop : tie.InvT-loop
 Inv-loop files normal-name normal₀ redundant-name redundant₀ out₀ next callers ours state advanced₀ turns₀ normal redundant out advanced turns =
     (length normal ≡ length normal₀) × (length redundant ≡ length redundant₀) × (length out ≡ length out₀)
     × Lies (advanced .progress) (length normal₀) (length redundant₀) × (advanced .next ≤ length out₀) × (advanced .progress .«handed_up» + turns < 2 ^ 64)
     × (advanced .progress .last ≡ false) × Cutting callers ours state normal redundant (advanced .progress) out (advanced .next)
+    × BothMovedNoMore (advanced .progress) (length normal) (length redundant)
 
 abbrev μ-loop : tie.MeasureT-loop
 μ-loop files normal-name normal₀ redundant-name redundant₀ out₀ next callers ours state advanced₀ turns₀ normal redundant out advanced turns =
@@ -40,6 +46,7 @@ loop-holds c =
       omega (arith, ap (λ (p : Progress). p .«handed_up») first),
       ap (λ (p : Progress). p .last) first,
       cutting-first (a .callers .now) (a .ours) (a .state) (a .normal .now) (a .redundant .now) first (start .pre .1 .2),
+      moved-first (a .state) _ _ first,
     )
 
 turn-requires : tie.Need-turn-requires Inv-loop μ-loop
@@ -50,7 +57,10 @@ turn-requires c κs =
       ((lies .0 .0, omega (arith, lies .0 .1, inv .0)), (lies .1 .0, omega (arith, lies .1 .1, inv .1))),
       (
         (omega (arith, pre .0 .0, inv .0), omega (arith, pre .0 .1, inv .1)),
-        ((omega (arith, inv .4, inv .2), omega (arith, inv .2, pre .1 .1)), omega (arith, inv .5)),
+        (
+          (omega (arith, inv .4, inv .2), omega (arith, inv .2, pre .1 .1)),
+          (omega (arith, inv .5), inv .8),
+        ),
       ),
     )
 
@@ -120,6 +130,7 @@ loop-again c =
       turn-cuts (a .callers .now) (a .ours) (a .state) (at .normal) (at .redundant) (at .advanced .progress) (at .out) (at .advanced .next)
           (turned .last .1 .1 .0) (turned .last .1 .1 .1 .1 .0) (turned .last .1 .1 .1 .1 .1 .0) (turned .result .advanced) (made .0)
           (turned .kept .1 .1 .0) (turned .kept .1 .1 .1 .1 .0) (made .2) (inv .6) (inv .7),
+      as-long (turned .result .advanced .progress) (turned .kept .1 .1 .0) (turned .kept .1 .1 .1 .1 .0) (made .4),
     )
 
 same-length-7 : tie.Need-same-length-7 Inv-loop μ-loop

@@ -7,7 +7,9 @@ use lib.ListN.{length}
 use Rattle.window.specs.Window.{lowOf}
 use Rattle.packet.specs.Sizes.{mostPacket}
 use Rattle.recording.specs.Progress.{windowed, Lies, AdvancedTo}
+use Rattle.recording.specs.Whole.{TurnOf}
 use Rattle.recording.specs.declared.Progress.{Progress}
+use Rattle.recording.proofs.Turns.{turn-moves}
 use borrow.Author.Needs.{needs}
 use Rattle.cut.proofs.turn.Statement.{statement}
 use Rattle.cut.proofs.turn.Tie as tie
@@ -61,7 +63,7 @@ advance-requires c κs =
         (
           subst (λ (q : Progress). (lowOf mostPacket (q .normal) ≡ false) × (lowOf mostPacket (q .redundant) ≡ false)) (sym lent)
               (made .0 .high-normal, made .0 .high-redundant),
-          omega (arith, ap (λ (q : Progress). q .«handed_up») lent, start .pre .1 .1 .1),
+          omega (arith, ap (λ (q : Progress). q .«handed_up») lent, start .pre .1 .1 .1 .0),
         ),
       ),
     )
@@ -89,21 +91,24 @@ returns-3 c =
     let normal = windows .last .1 .1 .0 in
     let redundant = windows .last .1 .1 .1 .1 .0 in
     let first = windows .result .normal in
-    let second = windows .result .redundant in λ _. (
-      record {
-        first = first;
-        second = second;
-        up = made .0;
-        advanced =
-            subst (λ (n : ℕ).
-            AdvancedTo normal redundant (a .callers .now) (a .ours) (windowed (first .window) (second .window) (a .was .progress)) (a .out .now) n (advance .last .1 .1 .0) (advance .result))
-            (place .ensures .0)
-            (subst (λ (q : Progress). AdvancedTo normal redundant (a .callers .now) (a .ours) q (a .out .now) (place .result .at) (advance .last .1 .1 .0) (advance .result)) lent
-            (advance .ensures .0));
-      },
+    let second = windows .result .redundant in
+    let turned : TurnOf (a .normal .now) (a .redundant .now) (a .callers .now) (a .ours) (a .was .progress) (a .out .now) (a .was .next) normal redundant (advance .last .1 .1 .0) (advance .result) = record {
+      first = first;
+      second = second;
+      up = made .0;
+      advanced =
+          subst (λ (n : ℕ).
+          AdvancedTo normal redundant (a .callers .now) (a .ours) (windowed (first .window) (second .window) (a .was .progress)) (a .out .now) n (advance .last .1 .1 .0) (advance .result))
+          (place .ensures .0)
+          (subst (λ (q : Progress). AdvancedTo normal redundant (a .callers .now) (a .ours) q (a .out .now) (place .result .at) (advance .last .1 .1 .0) (advance .result)) lent
+          (advance .ensures .0));
+    } in λ _. (
+      turned,
       ((lies .0 .0, omega (arith, lies .0 .1, windows .kept .1 .1 .0)), (lies .1 .0, omega (arith, lies .1 .1, windows .kept .1 .1 .1 .1 .0))),
       omega (arith, after .2, place .ensures .1, start .pre .1 .1 .0 .1),
       omega (arith, after .1, ap (λ (q : Progress). q .«handed_up») lent),
+      turn-moves (a .callers .now) (a .ours) (a .normal .now) (a .redundant .now) (a .was .progress) (a .out .now) (a .was .next) normal redundant (advance .last .1 .1 .0) (advance .result) turned
+          (windows .kept .1 .1 .0) (windows .kept .1 .1 .1 .1 .0) (start .pre .1 .0) (start .pre .0) (start .pre .1 .1 .1 .1),
     )
 
 pub turn-spec : {M : Type 1} → statement M
