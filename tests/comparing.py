@@ -12,6 +12,8 @@ ROOT = os.path.realpath(os.path.join(os.path.dirname(os.path.abspath(__file__)),
 RUN = os.path.join(ROOT, "tests", "run-program")
 # What `single` and the independent program read inputs of, and the lines that both print for one.
 LINES = {"steps": 6, "packets": 1, "messages": 1, "writes": 1, "calls": 1, "tables": 1}
+# So many characters of a line are shown before and behind a difference.
+NEAR = 2000
 
 
 def fail(said):
@@ -61,13 +63,15 @@ def inputs(given, size, between=lambda fields: 0):
 
 
 def same(what, ours, theirs, given=lambda at: ""):
-    """Fails where two outputs differ: at which line, what went in there, and both lines."""
+    """Fails where two outputs differ: at which line and byte, what went in there, and both lines; of long ones, what is near that byte."""
     if ours == theirs:
         return
     ours, theirs = ours.split(b"\n"), theirs.split(b"\n")
     at = next((at for at, (a, b) in enumerate(zip(ours, theirs)) if a != b), min(len(ours), len(theirs)))
-    both = ours[at:at + 1], theirs[at:at + 1]
-    fail("%s: they differ at line %d%s\nproved program: %s\nindependent: %s" % (what, at + 1, given(at), *both))
+    both = [b"".join(lines[at:at + 1]) for lines in (ours, theirs)]
+    byte = len(os.path.commonprefix(both))
+    near = [line[max(0, byte - NEAR):byte + NEAR] for line in both]
+    fail("%s: they differ at line %d, byte %d%s\nproved program: %s\nindependent: %s" % (what, at + 1, byte + 1, given(at), *near))
 
 
 def times(counts, names):
@@ -155,7 +159,7 @@ class Programs:
         words, path = [kind, str(seed), str(count)], self.path("%s-%d" % (kind, seed))
         theirs = self.independent(words + [path])
         # without a file the independent program prints a heading, and a line for each input with its fields
-        given = lambda at: "\ngiven: %s" % self.independent(words).splitlines()[at // LINES[kind] + 1:][:1]
+        given = lambda at: "\ngiven: %s" % [line[:2 * NEAR] for line in self.independent(words).splitlines()[at // LINES[kind] + 1:][:1]]
         ours = proved("single", [kind, path])
         same("independent " + " ".join(words), ours, theirs, given)
         return contents(path), ours.decode().splitlines()

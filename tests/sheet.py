@@ -1,4 +1,5 @@
 # Reads the test sheet's cases (tests/cases, described in tests/cases/README.md): what goes into the programs, in bytes, and what must come out.
+import itertools
 import os
 import re
 import struct
@@ -55,6 +56,17 @@ def bytes_of(text):
             raise Wrong("%s: not a byte" % token)
         made += bytes([int(found[1], 16)]) * int(found[2] or 1)
     return made
+
+
+# Bytes in hex for a person, as a case writes them.
+def told(given):
+    runs = [(byte, len(list(same))) for byte, same in itertools.groupby(given)]
+    return " ".join("%02X*%d" % (byte, times) if times > 16 else " ".join(["%02X" % byte] * times) for byte, times in runs)
+
+
+# What is printed, for a person: many bytes as a case writes them.
+def shortened(text):
+    return re.sub(r"\b(?:[0-9A-F]{2}){100,}\b", lambda found: told(bytes.fromhex(found[0])), text)
 
 
 def big_endian(value, width):

@@ -2,6 +2,7 @@
 
 use crate::packet;
 use crate::random::Random;
+use crate::streams::LENT_MOST;
 
 /// Our own id, and the list as it is lent.
 pub struct Allowed {
@@ -9,8 +10,8 @@ pub struct Allowed {
     pub callers: Vec<u8>,
 }
 
-/// So many entries a list has at most in the file that `single steps` reads.
-const ENTRIES_MOST: usize = 7168 / packet::ID;
+/// So many entries a list has at most in the file that `single steps` reads; a cut one may stand behind them.
+const ENTRIES_MOST: usize = LENT_MOST / packet::ID;
 
 /// Any id, the edges often.
 fn some_id(random: &mut Random) -> u32 {
@@ -80,7 +81,6 @@ pub fn some_lent(random: &mut Random) -> Allowed {
     if random.once_in(3) {
         let left_over = random.pick(&[1, 2, 3]);
         let cut = some_id(random).to_be_bytes();
-        allowed.callers.truncate(packet::ID * (ENTRIES_MOST - 1));
         allowed.callers.extend(&cut[..left_over]);
     }
     allowed
@@ -134,7 +134,7 @@ pub fn welcome(random: &mut Random, allowed: &Allowed) -> (u32, u32) {
 pub fn unwelcome(random: &mut Random, allowed: &Allowed) -> (u32, u32) {
     let (caller, other_caller) = (listed(random, &allowed.callers), not_listed(random, &allowed.callers));
     let other_called = match random.below(6) {
-        0 => caller,
+        0 => listed(random, &allowed.callers),
         1 => some_id(random),
         2 => random.pick(&[0, u32::MAX]),
         _ => near(random, allowed.ours),

@@ -29,8 +29,9 @@ pub const HEADER: usize = 10;
 pub const CHECKED: usize = 8;
 pub const LENGTH_FIELD: usize = 2;
 pub const LENGTH_LEAST: usize = 8;
-pub const LENGTH_MOST: usize = 1032;
-pub const DATA_MOST: usize = 1024;
+/// The most user data, of a packet that is read and of one that is written (02, No. 6); a length's most follows from it.
+pub const DATA_MOST: usize = 65_000;
+pub const LENGTH_MOST: usize = HEADER - LENGTH_FIELD + DATA_MOST;
 
 pub const AU1: u8 = 1;
 pub const AU2: u8 = 2;

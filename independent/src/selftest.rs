@@ -30,7 +30,10 @@ pub fn all() -> Tests {
     let mut tests = Tests::default();
     header_check(&mut tests);
     packet_writing(&mut tests);
+    long_packet_writing(&mut tests);
     packet_rows(&mut tests);
+    long_packet_rows(&mut tests);
+    long_packets_run(&mut tests);
     packet_first_rows(&mut tests);
     known_callers(&mut tests);
     known_caller_ids(&mut tests);
@@ -74,17 +77,47 @@ fn plain(kind: u8, number: u16, data: &[u8]) -> Packet<'_> {
     Packet { version: 1, application: 0x1A, number, kind, data }
 }
 
-fn written(kind: u8, number: u16, data: &[u8], room: usize) -> (u16, usize) {
+fn written_on(link: Link, kind: u8, number: u16, data: &[u8], room: usize) -> (u16, usize) {
     let mut out = vec![0xA5; room];
-    let got = packet::write(Link::Normal, &plain(kind, number, data), &mut out);
-    if got.0 != 0 {
-        assert!(out.iter().all(|byte| *byte == 0xA5), "a refused packet wrote a byte");
-    }
+    let got = packet::write(link, &plain(kind, number, data), &mut out);
+    assert!(out[got.1..].iter().all(|byte| *byte == 0xA5), "a byte was written behind the packet, or of one that is refused");
     got
 }
 
+fn written(kind: u8, number: u16, data: &[u8], room: usize) -> (u16, usize) {
+    written_on(Link::Normal, kind, number, data, room)
+}
+
+/// 02's No. 6: both sides of the most that is written, of the room that it asks, and of the 1,024 that were once the most.
+fn long_packet_writing(tests: &mut Tests) {
+    let data: Vec<u8> = (0..65_535_u32).map(|at| (at % 251) as u8).collect();
+    for link in [Link::Normal, Link::Redundant] {
+        for (length, room, answer) in [
+            (65_000, 65_010, 0), (65_000, 65_009, 313), (65_000, 65_535, 0), (64_999, 65_009, 0), (64_999, 65_008, 313), (65_001, 65_011, 312),
+            (65_001, 65_535, 312), (65_002, 65_535, 312), (65_535, 65_535, 312), (1_024, 1_034, 0), (1_025, 1_035, 0), (1_025, 1_034, 313),
+            (32_758, 32_768, 0), (32_758, 32_767, 313), (65_000, 10, 313), (65_001, 10, 312),
+        ] {
+            for kind in [3, 4] {
+                let wanted = (answer, if answer == 0 { 10 + length } else { 0 });
+                tests.equal("long user data", written_on(link, kind, 5, &data[..length], room), wanted);
+            }
+        }
+        let mut out = vec![0; 65_010];
+        let answer = packet::write(link, &plain(3, 5, &data[..65_000]), &mut out);
+        tests.equal("the longest packet", (answer, &out[..8]), ((0, 65_010), &[0xFD, 0xF0, 1, 0x1A, 0, 5, link.flag(), 3][..]));
+        tests.equal("its check", u16::from_be_bytes([out[8], out[9]]), packet::check(&out[..8]));
+        tests.equal("its user data", out[10..] == data[..65_000], true);
+    }
+    let mut ids = vec![9; 65_001];
+    ids[8] = 3;
+    tests.equal("the longest AU1", written(1, 0, &ids[..65_000], 65_010), (0, 65_010));
+    tests.equal("an AU1 one byte longer", written(1, 0, &ids, 65_535), (312, 0));
+    tests.equal("the longest AU2", written(2, 0, &ids[..65_000], 65_010), (0, 65_010));
+    tests.equal("an AU2 one byte longer", written(2, 0, &ids, 65_535), (312, 0));
+}
+
 fn packet_writing(tests: &mut Tests) {
-    let data = [0_u8; 1025];
+    let data = [0_u8; 65_001];
     let au1 = |length: usize, class: u8| {
         let mut bytes = vec![9; length];
         if length > 8 {
@@ -92,8 +125,6 @@ fn packet_writing(tests: &mut Tests) {
         }
         bytes
     };
-    tests.equal("data 1,024", written(3, 5, &data[..1024], 1034), (0, 1034));
-    tests.equal("data 1,025", written(3, 5, &data, 2000), (312, 0));
     tests.equal("out 10 + n", written(3, 5, &data[..20], 30), (0, 30));
     tests.equal("out 10 + n - 1", written(3, 5, &data[..20], 29), (313, 0));
     tests.equal("312 before 313", written(4, 5, &data, 0), (312, 0));
@@ -131,8 +162,9 @@ fn judged(state: State, link: Link, bytes: &[u8]) -> (u16, usize) {
 }
 
 /// A header with a length and right check, and user data enough for any length.
-fn with_length(length: u16) -> Vec<u8> {
-    let mut bytes = packet::bytes_of(Link::Normal, &plain(3, 1, &[0; 1100]));
+fn with_length(link: Link, length: u16) -> Vec<u8> {
+    let data: Vec<u8> = (0..65_535_u32).map(|at| (at % 251) as u8).collect();
+    let mut bytes = packet::bytes_of(link, &plain(3, 1, &data));
     bytes[..2].copy_from_slice(&length.to_be_bytes());
     let check = packet::check(&bytes[..8]).to_be_bytes();
     bytes[8..10].copy_from_slice(&check);
@@ -140,8 +172,10 @@ fn with_length(length: u16) -> Vec<u8> {
 }
 
 fn packet_rows(tests: &mut Tests) {
-    for (length, answer, used) in [(7, 302, 0), (8, 0, 10), (1032, 0, 1034), (1033, 302, 0), (0, 302, 0), (65535, 302, 0)] {
-        tests.equal("length", judged(later(0, true), Link::Normal, &with_length(length)), (answer, used));
+    for link in [Link::Normal, Link::Redundant] {
+        for (length, answer, used) in [(7, 302, 0), (8, 0, 10), (0, 302, 0), (65535, 302, 0)] {
+            tests.equal("length", judged(later(0, true), link, &with_length(link, length)), (answer, used));
+        }
     }
     tests.equal("length fault seen at 2 bytes", judged(later(0, true), Link::Normal, &[0, 7]), (302, 0));
     tests.equal("not seen at 1 byte", judged(later(0, true), Link::Normal, &[0]), (301, 0));
@@ -167,6 +201,54 @@ fn packet_rows(tests: &mut Tests) {
         tests.equal("AU1 or AU2 later", judged(later(5, false), Link::Normal, &numbered(kind, 6)), (306, 10));
     }
     tests.equal("release", judged(later(5, true), Link::Normal, &numbered(4, 6)), (0, 10));
+}
+
+/// 02's No. 6: both sides of the greatest length, of the one that was the greatest before, and of those that set another bit of the field; with
+/// all the bytes there, at two bytes, and without the last one.
+fn long_packet_rows(tests: &mut Tests) {
+    let state = later(0, true);
+    for link in [Link::Normal, Link::Redundant] {
+        for length in [255, 256, 1031, 1032, 1033, 1034, 4096, 32_767, 32_768, 32_769, 65_007, 65_008] {
+            let (bytes, used) = (with_length(link, length), 2 + usize::from(length));
+            tests.equal("an allowed length", judged(state, link, &bytes), (0, used));
+            tests.equal("and no byte behind it", judged(state, link, &bytes[..used]), (0, used));
+            tests.equal("one byte short", judged(state, link, &bytes[..used - 1]), (301, 0));
+            tests.equal("two bytes are there", judged(state, link, &bytes[..2]), (301, 0));
+            let (normal, redundant) = if link == Link::Normal { (&bytes[..], &[][..]) } else { (&[][..], &bytes[..]) };
+            let (after, step) = links::step(state, SEVENS, (normal, 0), (redundant, 0));
+            tests.equal("its user data", step.packet.map(|taken| *taken.data == bytes[10..used]), Some(true));
+            tests.equal("its number", after, later(1, true));
+        }
+        for length in [65_009, 65_010, 65_011, 65_100, 65_534, 65_535] {
+            let bytes = with_length(link, length);
+            for there in [2, 3, 10, 65_010, usize::from(length) + 2] {
+                tests.equal("a length over the most", judged(state, link, &bytes[..there]), (302, 0));
+            }
+            tests.equal("not seen at one byte", judged(state, link, &bytes[..1]), (301, 0));
+        }
+        for (kind, number, answer) in [(251, 1, 305), (3, 0, 306), (3, 2, 307), (1, 1, 306)] {
+            let bytes = packet::bytes_of(link, &plain(kind, number, &[0; 65_000]));
+            tests.equal("used and dropped", judged(state, link, &bytes), (answer, 65_010));
+        }
+    }
+}
+
+/// 02's No. 6 in a whole run: a long opening packet, one of the greatest length on each link, one that is cut on the normal link and whole on
+/// the other, and one byte too many.
+fn long_packets_run(tests: &mut Tests) {
+    let mut ids = vec![7; 65_000];
+    ids[8] = 3;
+    let sent = |link, packets: &[(u8, u16, &[u8])]| -> Vec<u8> {
+        packets.iter().flat_map(|(kind, number, data)| packet::bytes_of(link, &plain(*kind, *number, data))).collect()
+    };
+    let (most, over) = (vec![0; 65_000], vec![0; 65_001]);
+    let normal = sent(Link::Normal, &[(1, 0, &ids), (3, 1, &most), (3, 2, &[4]), (3, 3, &most)]);
+    let redundant = sent(Link::Redundant, &[(3, 2, &most), (3, 3, &most), (3, 4, &over), (3, 5, &[])]);
+    let lines = [
+        "link answer used type number data", "normal 0 65010 1 0 65000", "normal 0 65010 3 1 65000", "normal 0 11 3 2 1", "redundant 306 65010 0 0 0",
+        "redundant 0 65010 3 3 65000", "redundant 302 0 0 0 0", "normal 301 0 0 0 0", "end 4\n",
+    ];
+    tests.equal("a run with long packets", links::cut(Role::Responder, true, SEVENS, &normal[..normal.len() - 1], &redundant), lines.join("\n"));
 }
 
 fn packet_first_rows(tests: &mut Tests) {

@@ -8,6 +8,9 @@ use crate::random::Random;
 use std::collections::BTreeMap;
 use std::path::Path;
 
+/// So many bytes a link or a list has at most in the file that `single steps` reads.
+pub const LENT_MOST: usize = u16::MAX as usize;
+
 /// A packet as the peer means to send it.
 #[derive(Clone)]
 struct Meant {
@@ -31,6 +34,8 @@ struct Faults {
     repeated: u64,
 }
 
+const NO_FAULTS: Faults = Faults { link: 0, dropped: 0, unwelcome: 0, lost: 0, repeated: 0 };
+
 fn happens(random: &mut Random, rate: u64) -> bool {
     rate > 0 && random.once_in(rate)
 }
@@ -39,12 +44,28 @@ fn some_role(random: &mut Random) -> Role {
     random.pick(&[Role::Initiator, Role::Responder])
 }
 
-/// Any user data length, the bounds often; in a long conversation mostly long ones.
-fn some_length(random: &mut Random, long: bool) -> usize {
-    match random.below(8) {
-        0 => random.pick(&[0, 1, 1023, 1024]),
-        1 => random.between(0, 1024) as usize,
-        _ if long => random.between(0, 1024) as usize,
+/// Up to how much user data the packets of a conversation mostly have: 40 bytes, the 1,024 that were once the most, or the most.
+#[derive(Clone, Copy)]
+enum Lengths {
+    Short,
+    Middle,
+    Long,
+}
+
+/// What most conversations have.
+fn not_long(random: &mut Random) -> Lengths {
+    if random.once_in(4) { Lengths::Middle } else { Lengths::Short }
+}
+
+/// Any user data length, the bounds often, and those with which a length or a whole packet is about 32,768.
+fn some_length(random: &mut Random, lengths: Lengths) -> usize {
+    let most = packet::DATA_MOST;
+    match (random.below(8), lengths) {
+        (0, _) => random.pick(&[0, 1, 1023, 1024, 1025]),
+        (1 | 2, Lengths::Long) => random.pick(&[most - 1, most, most]),
+        (3, Lengths::Long) => random.pick(&[32_757, 32_758, 32_759, 32_760]),
+        (_, Lengths::Long) => random.between(0, most as u64) as usize,
+        (1, _) | (_, Lengths::Middle) => random.between(0, 1024) as usize,
         _ => random.between(0, 40) as usize,
     }
 }
@@ -118,8 +139,7 @@ fn opening(random: &mut Random, role: Role, allowed: &Allowed, faults: Faults) -
 }
 
 /// What the peer means to send over both links.
-fn conversation(random: &mut Random, role: Role, allowed: &Allowed, count: usize, faults: Faults) -> Vec<Meant> {
-    let long = random.once_in(4);
+fn conversation(random: &mut Random, role: Role, allowed: &Allowed, (count, lengths): (usize, Lengths), faults: Faults) -> Vec<Meant> {
     let mut sent = opening(random, role, allowed, faults);
     let mut last = 0;
     for _ in 0..count {
@@ -135,12 +155,22 @@ fn conversation(random: &mut Random, role: Role, allowed: &Allowed, count: usize
         let data = if kind == packet::AU1 && random.once_in(2) {
             first_unwelcome(random, allowed).data
         } else {
-            let length = some_length(random, long);
+            let length = some_length(random, lengths);
             random.bytes(length)
         };
         sent.push(Meant { kind, number, data });
     }
     sent
+}
+
+/// A length that is not the packet's: too small, too great, or within the bounds, mostly beside one of them.
+fn other_length(random: &mut Random) -> u16 {
+    let most = packet::LENGTH_MOST as u16;
+    match random.below(3) {
+        0 => random.pick(&[0, 1, 7, 7]),
+        1 => random.pick(&[most + 1, most + 1, most + 2, 65534, 65535]),
+        _ => random.pick(&[8, 9, 1032, 1033, 1034, 4096, 32768, most - 1, most]),
+    }
 }
 
 /// A meant packet's bytes on a link, perhaps with a fault in length, flag or check, or in several.
@@ -152,13 +182,12 @@ fn on_link(random: &mut Random, link: Link, meant: &Meant, faults: Faults) -> Ve
     }
     // 1 the length, 2 the flag, 4 the check.
     let which = random.pick(&[1, 2, 2, 2, 4, 4, 4, 3, 5, 6, 7]);
-    if which & 1 != 0 && random.once_in(3) {
-        // One byte more than the most, all there.
-        let long = Meant { data: random.bytes(packet::DATA_MOST + 1), ..meant.clone() };
-        bytes = packet::bytes_of(link, &Packet { data: &long.data, ..packet });
+    if which & 1 != 0 && meant.data.len() > 1025 && random.once_in(2) {
+        // A long packet: one byte more than the most, all there.
+        let data = random.bytes(packet::DATA_MOST + 1);
+        bytes = packet::bytes_of(link, &Packet { data: &data, ..packet });
     } else if which & 1 != 0 {
-        let length: u16 = random.pick(&[0, 1, 7, 8, 9, 1032, 1033, 1034, 4096, 32768, 65535]);
-        bytes[..2].copy_from_slice(&length.to_be_bytes());
+        bytes[..2].copy_from_slice(&other_length(random).to_be_bytes());
     }
     if which & 2 != 0 {
         bytes[6] = random.pick(&[1 - link.flag(), 2, 255, bytes[6] ^ 0x80]);
@@ -173,8 +202,8 @@ fn on_link(random: &mut Random, link: Link, meant: &Meant, faults: Faults) -> Ve
     bytes
 }
 
-/// One link's whole bytes.
-fn link_bytes(random: &mut Random, link: Link, sent: &[Meant], faults: Faults) -> Vec<u8> {
+/// What a link brings of what is sent.
+fn brought(random: &mut Random, link: Link, sent: &[Meant], faults: Faults) -> Vec<u8> {
     let mut bytes = Vec::new();
     for meant in sent {
         if happens(random, faults.lost) {
@@ -185,6 +214,12 @@ fn link_bytes(random: &mut Random, link: Link, sent: &[Meant], faults: Faults) -
             bytes.extend(on_link(random, link, meant, faults));
         }
     }
+    bytes
+}
+
+/// One link's whole bytes, perhaps cut anywhere or with some behind them.
+fn link_bytes(random: &mut Random, link: Link, sent: &[Meant], faults: Faults) -> Vec<u8> {
+    let mut bytes = brought(random, link, sent, faults);
     if random.once_in(3) {
         bytes.truncate(random.below(bytes.len() as u64 + 1) as usize);
     }
@@ -205,7 +240,7 @@ pub struct Pair {
 }
 
 /// One of the pairs: valid, damaged, lossy, lagging, or all at once.
-pub fn pair(random: &mut Random) -> Pair {
+fn pair(random: &mut Random, long: bool) -> Pair {
     let faults = Faults {
         link: random.pick(&[0, 100, 30, 8, 4]),
         dropped: random.pick(&[0, 30, 8, 3]),
@@ -215,8 +250,9 @@ pub fn pair(random: &mut Random) -> Pair {
     };
     let (role, strict) = (some_role(random), random.once_in(2));
     let allowed = callers::some_allowed(random);
-    let count = random.pick(&[0, 1, 3, 10, 40, 150, 400]);
-    let sent = conversation(random, role, &allowed, count, faults);
+    let count = if long { random.pick(&[1, 3, 10, 20, 40]) } else { random.pick(&[0, 1, 3, 10, 40, 150, 400]) };
+    let lengths = if long { Lengths::Long } else { not_long(random) };
+    let sent = conversation(random, role, &allowed, (count, lengths), faults);
     // A lagging link misses the end of what was sent, or all of it.
     let lag = |random: &mut Random| match random.below(4) {
         0 => random.below(sent.len() as u64 + 1) as usize,
@@ -232,7 +268,7 @@ pub fn pair(random: &mut Random) -> Pair {
     }
 }
 
-/// A long pair whose numbers pass 65535 one by one, the redundant link a few packets ahead.
+/// A pair whose numbers pass 65535 one by one, the redundant link a few packets ahead.
 fn wrapping_pair(random: &mut Random, strict: bool) -> Pair {
     let role = some_role(random);
     let ours = random.count();
@@ -242,11 +278,34 @@ fn wrapping_pair(random: &mut Random, strict: bool) -> Pair {
         let length = random.pick(&[0, 0, 0, 1, 5]);
         sent.push(Meant { kind: packet::DATA, number: number as u16, data: random.bytes(length) });
     }
-    let bytes = |random: &mut Random, link: Link, sent: &[Meant]| {
-        let none = Faults { link: 0, dropped: 0, unwelcome: 0, lost: 0, repeated: 0 };
-        sent.iter().flat_map(|meant| on_link(random, link, meant, none)).collect()
-    };
-    Pair { role, strict, allowed, normal: bytes(random, Link::Normal, &sent[..65_590]), redundant: bytes(random, Link::Redundant, &sent) }
+    let normal = brought(random, Link::Normal, &sent[..65_590], NO_FAULTS);
+    let redundant = brought(random, Link::Redundant, &sent, NO_FAULTS);
+    Pair { role, strict, allowed, normal, redundant }
+}
+
+/// A pair of some megabytes on each link that is read to its end, so that packets lie across the places where a program fills its buffers
+/// again: packets of any length, the opening one long too, some lost or repeated on one link, or short ones that all come. One link lacks the
+/// last tenth, the normal one where the setting is strict.
+fn large_pair(random: &mut Random, strict: bool, long: bool) -> Pair {
+    let role = some_role(random);
+    let ours = random.count();
+    let allowed = Allowed { ours, callers: random.bytes(3 * packet::ID) };
+    let mut sent = vec![first_meant(random, role, &allowed)];
+    let faults = if long { Faults { lost: 40, repeated: 20, ..NO_FAULTS } } else { NO_FAULTS };
+    if long {
+        sent[0].data.extend(random.bytes(60_000));
+    }
+    let (mut size, total) = (0, if long { 3_000_000 } else { 2_500_000 });
+    while size < total {
+        let length = if long { some_length(random, Lengths::Long) } else { random.between(0, 60) as usize };
+        size += packet::HEADER + length;
+        sent.push(Meant { kind: packet::DATA, number: sent.len() as u16, data: random.bytes(length) });
+    }
+    let behind = sent.len() - sent.len() / 10;
+    let (normal_seen, redundant_seen) = if strict { (behind, sent.len()) } else { (sent.len(), behind) };
+    let normal = brought(random, Link::Normal, &sent[..normal_seen], faults);
+    let redundant = brought(random, Link::Redundant, &sent[..redundant_seen], faults);
+    Pair { role, strict, allowed, normal, redundant }
 }
 
 fn role_name(role: Role) -> &'static str {
@@ -273,7 +332,7 @@ fn words_of(pair: &Pair) -> String {
 }
 
 /// Writes the pairs NAME.normal and NAME.redundant and the file `list` with lines NAME role strict [OURS CALLER ..];
-/// returns how often each answer occurred. The first two pairs are the long ones.
+/// returns how often each answer occurred. The first five pairs are the large ones; of the others one in sixteen has long packets.
 pub fn write_streams(seed: u64, count: usize, folder: &Path) -> std::io::Result<BTreeMap<String, usize>> {
     let mut random = Random::new(seed);
     let mut answers = BTreeMap::new();
@@ -283,7 +342,10 @@ pub fn write_streams(seed: u64, count: usize, folder: &Path) -> std::io::Result<
         let made = match at {
             0 => wrapping_pair(&mut random, true),
             1 => wrapping_pair(&mut random, false),
-            _ => pair(&mut random),
+            2 => large_pair(&mut random, true, true),
+            3 => large_pair(&mut random, false, true),
+            4 => large_pair(&mut random, true, false),
+            _ => pair(&mut random, at % 16 == 5),
         };
         let name = format!("{at:05}");
         std::fs::write(folder.join(format!("{name}.normal")), &made.normal)?;
@@ -305,7 +367,8 @@ pub fn hex(bytes: &[u8]) -> String {
     if bytes.is_empty() {
         return String::from("-");
     }
-    bytes.iter().map(|byte| format!("{byte:02X}")).collect()
+    let digit = |value: u8| char::from(b"0123456789ABCDEF"[usize::from(value)]);
+    bytes.iter().flat_map(|byte| [digit(byte >> 4), digit(byte & 15)]).collect()
 }
 
 pub const STEPS_HEADER: &str = "normal_up redundant_up role strict first last normal_place normal redundant_place redundant ours callers = \
@@ -321,13 +384,48 @@ fn some_place(random: &mut Random, begins: usize, length: usize) -> usize {
     }
 }
 
-/// A link's short bytes with junk before the place where the packets begin.
+/// A link's short bytes with junk before the place where the packets begin, as far as a step's file has room.
 fn short_link(random: &mut Random, link: Link, sent: &[Meant], faults: Faults) -> (Vec<u8>, usize) {
     let junk = random.pick(&[0, 0, 1, 7, 300]);
     let mut bytes = random.bytes(junk);
     bytes.extend(link_bytes(random, link, sent, faults));
+    bytes.truncate(LENT_MOST);
     let place = some_place(random, junk, bytes.len());
     (bytes, place)
+}
+
+/// A long packet on a link with junk before its place: whole, cut by one byte, or with bytes behind it, as far as a step's file has room.
+fn long_link(random: &mut Random, link: Link, meant: &Meant, faults: Faults) -> (Vec<u8>, usize) {
+    let packet = on_link(random, link, meant, faults);
+    let room = LENT_MOST - packet.len();
+    let junk = random.pick(&[0, 0, 1, 7, 300, room]).min(room);
+    let mut bytes = [random.bytes(junk), packet].concat();
+    match random.below(5) {
+        0 => bytes.truncate(bytes.len() - 1),
+        1 | 2 => {
+            let behind = random.pick(&[1, 30, 300, room]).min(room - junk);
+            bytes.extend(random.bytes(behind));
+        }
+        _ => (),
+    }
+    let place = if random.once_in(8) { some_place(random, junk, bytes.len()) } else { junk };
+    (bytes, place)
+}
+
+/// A long packet, mostly data: about the most, one byte more, about the 1,024 that were once the most, or any length.
+fn long_meant(random: &mut Random, role: Role, allowed: &Allowed) -> Meant {
+    let most = packet::DATA_MOST;
+    let any = random.between(0, most as u64) as usize;
+    let length = random.pick(&[most - 1, most, most, most, most + 1, most + 1, 1024, 1025, 32_759, 32_760, any]);
+    let mut meant = match random.below(7) {
+        0 => first_meant(random, role, allowed),
+        1 => first_unwelcome(random, allowed),
+        2 => Meant { kind: random.pick(&[packet::RELEASE, 251]), number: random.number(), data: Vec::new() },
+        _ => Meant { kind: packet::DATA, number: random.number(), data: Vec::new() },
+    };
+    let more = length.saturating_sub(meant.data.len());
+    meant.data.extend(random.bytes(more));
+    meant
 }
 
 /// A state near the packet that stands first: every d on both sides of each bound, and mostly awaited where it is one that opens.
@@ -437,7 +535,8 @@ fn some_trial(random: &mut Random) -> Trial {
     let faults = Faults { link: random.pick(&[0, 6]), dropped: random.pick(&[0, 3]), unwelcome: random.pick(&[0, 2]), lost: 0, repeated: 0 };
     let role = some_role(random);
     let allowed = callers::some_lent(random);
-    let mut sent = conversation(random, role, &allowed, 2, faults);
+    let lengths = not_long(random);
+    let mut sent = conversation(random, role, &allowed, (2, lengths), faults);
     let begins = if random.once_in(3) { 0 } else { random.below(sent.len() as u64) as usize };
     sent.drain(..begins);
     let state = some_state(random, role, &sent[0]);
@@ -446,8 +545,29 @@ fn some_trial(random: &mut Random) -> Trial {
     Trial { state, normal, normal_place, redundant, redundant_place, allowed }
 }
 
-/// So many random steps.
+/// A step with a long packet on one link or on both. The other link is as good as empty, or has a short packet of that number.
+fn long_trial(random: &mut Random) -> Trial {
+    let faults = Faults { link: random.pick(&[0, 0, 6]), ..NO_FAULTS };
+    let role = some_role(random);
+    let allowed = callers::some_lent(random);
+    let meant = long_meant(random, role, &allowed);
+    let opens = meant.kind == packet::AU1 || meant.kind == packet::AU2;
+    let last = meant.number.wrapping_sub(random.pick(&[0, 1, 1, 1, 1, 1, 2, 32767]));
+    let state = State { first: opens, last, ..some_state(random, role, &meant) };
+    let other = if random.once_in(2) { vec![Meant { data: random.bytes(20), ..meant.clone() }] } else { Vec::new() };
+    // 1 the normal link, 2 the redundant one
+    let which = random.pick(&[1, 2, 3]);
+    let mut lent = |link: Link, bit: u8| match which & bit {
+        0 => short_link(random, link, &other, faults),
+        _ => long_link(random, link, &meant, faults),
+    };
+    let (normal, normal_place) = lent(Link::Normal, 1);
+    let (redundant, redundant_place) = lent(Link::Redundant, 2);
+    Trial { state, normal, normal_place, redundant, redundant_place, allowed }
+}
+
+/// So many random steps, the last of each 150 with a long packet.
 pub fn steps(seed: u64, count: usize) -> impl Iterator<Item = Trial> {
     let mut random = Random::new(seed);
-    (0..count).map(move |_| some_trial(&mut random))
+    (0..count).map(move |at| if at % 150 == 149 { long_trial(&mut random) } else { some_trial(&mut random) })
 }

@@ -29,9 +29,9 @@ packetFrom fields =
       size = getD fields 6 0;
     }
 
--- the most room of an out buffer
+-- the most room of an out buffer: what a field of two bytes can say
 abbrev pub mostPacketRoom : ℕ
-mostPacketRoom = 2048
+mostPacketRoom = 65535
 
 -- the most text of a packet: the answer, what was written, and the end of the line
 abbrev pub mostPacketText : ℕ

@@ -31,9 +31,9 @@ stepFrom fields =
       «callers_size» = getD fields 7 0;
     }
 
--- the most bytes of a link
+-- the most bytes of a link: what its size, a field of two bytes, can say
 abbrev pub mostLink : ℕ
-mostLink = 7168
+mostLink = 65535
 
 -- both links are no longer
 abbrev pub NoLonger : List ℕ → List ℕ → Type 0

@@ -12,8 +12,8 @@ use text::Done;
 // The bytes of the fields before the user data.
 const FIELDS_SIZE: usize = 10;
 
-// The most room of an out buffer.
-const MOST_ROOM: usize = 2048;
+// The most room of an out buffer: what a field of two bytes can say.
+const MOST_ROOM: usize = 65535;
 
 // The fields of a packet in the file.
 struct Packet {
@@ -43,13 +43,11 @@ fn packet_from(s: &[u8]) -> Packet
 }
 
 impl Packet {
-    // The packet with this user data, written to so much of a lent buffer.
-    fn write(self, data: &[u8], lent: &mut [u8], room: usize) -> Written
-        requires { ⌜ room ≤ length (now lent) ⌝ }
-    {
+    // The packet with this user data, written to a lent buffer.
+    fn write(self, data: &[u8], lent: &mut [u8]) -> Written {
         let normal = self.link == 1;
         packet_writing::write(
-            &mut lent[0..room],
+            lent,
             normal,
             self.version,
             self.application,
@@ -61,11 +59,11 @@ impl Packet {
 }
 
 // That packet, and its line.
-fn put_packet(out: &mut [u8], given: Packet, data: &[u8], lent: &mut [u8], room: usize) -> usize
-    requires { ⌜ (room ≤ length (now lent)) × (length (now lent) ≤ mostPacketRoom) × (mostPacketText ≤ length (now out)) ⌝ }
+fn put_packet(out: &mut [u8], given: Packet, data: &[u8], lent: &mut [u8]) -> usize
+    requires { ⌜ (length (now lent) ≤ mostPacketRoom) × (mostPacketText ≤ length (now out)) ⌝ }
     ensures { λ r. ⌜ r ≤ mostPacketText ⌝ }
 {
-    let made = given.write(data, lent, room);
+    let made = given.write(data, lent);
     let after_answer = text::put_decimal(out, 0, made.answer as u64);
     let after_written = text::put_written(out, after_answer, lent, made.written);
     text::put(out, after_written, b"\n")
@@ -85,12 +83,9 @@ pub fn packet_at(s: &[u8], out: &mut [u8]) -> Done
     if s.len() < end {
         return Done::not_whole();
     }
-    if MOST_ROOM < room {
-        return Done::not_whole();
-    }
     let mut lent = [text::BEFORE; MOST_ROOM];
     Done {
-        next: put_packet(out, given, &s[FIELDS_SIZE..end], &mut lent, room),
+        next: put_packet(out, given, &s[FIELDS_SIZE..end], &mut lent[0..room]),
         used: end,
     }
 }

@@ -15,9 +15,6 @@ use text::Done;
 // The bytes of the fields before the links' own.
 const FIELDS_SIZE: usize = 21;
 
-// The most bytes of a link, and of the list.
-const MOST_LINK: usize = 7168;
-
 // The flags.
 const NORMAL_UP: u8 = 1;
 
@@ -237,15 +234,6 @@ pub fn step_at(s: &[u8], out: &mut [u8]) -> Done
     let normal = step.normal_size as usize;
     let redundant = step.redundant_size as usize;
     let callers = step.callers_size as usize;
-    if MOST_LINK < normal {
-        return Done::not_whole();
-    }
-    if MOST_LINK < redundant {
-        return Done::not_whole();
-    }
-    if MOST_LINK < callers {
-        return Done::not_whole();
-    }
     let middle = FIELDS_SIZE + normal;
     let list = middle + redundant;
     let end = list + callers;

@@ -3,14 +3,17 @@
 ghost use mathlib.Core.Path.{_≡_};
 ghost use Prim.Native.Nat.{_+_, _≤_};
 ghost use lib.ListN.{length};
-ghost use Rattle.single.specs.Sizes.{mostInput, mostText};
+ghost use Rattle.single.specs.Sizes.{mostInput, mostText, bufferSize};
 ghost use Rattle.window.specs.Window.{Within};
 use text::Chosen;
 use text::Done;
 use window::Window;
 
 // An input fits a window that has so many bytes.
-const MOST_INPUT: usize = 32768;
+const MOST_INPUT: usize = 262144;
+
+// The bytes of a buffer: two inputs, so that a byte is moved at most once (CUT-6), and the text of one.
+const BUFFER: usize = 524288;
 
 // What an input is.
 enum Kind {
@@ -129,10 +132,17 @@ fn all(kind: Kind, fd: i32, name: &[u8], buffer: &mut [u8], out: &mut [u8])
     }
 }
 
+// A buffer. The `ensures` gives the length, which lending it asks for.
+fn empty_buffer() -> [u8; BUFFER]
+    ensures { λ r. ⌜ bufferSize ≡ length r ⌝ }
+{
+    [0; BUFFER]
+}
+
 // The inputs of an open file, with buffers of their own.
 fn run(kind: Kind, fd: i32, name: &[u8]) {
-    let mut buffer = io::large_buffer();
-    let mut out = io::large_buffer();
+    let mut buffer = empty_buffer();
+    let mut out = empty_buffer();
     all(kind, fd, name, &mut buffer, &mut out);
 }
 
