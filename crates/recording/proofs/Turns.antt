@@ -11,6 +11,7 @@ use Rattle.text.proofs.Places.{placed, put-behind}
 use Rattle.window.specs.Window.{lowOf, wasRead, ToppedUp}
 use Rattle.window.specs.declared.Window.{Window}
 use Rattle.window.specs.declared.Refilled.{Refilled}
+use Rattle.window.specs.MovedOnce.{MovedNoMoreThanRead}
 use Rattle.window.proofs.Unread.{low-not-ended}
 use Rattle.window.proofs.MovedOnce.{none-moved, moved-topped-up, moved-used}
 use Rattle.packet.specs.Sizes.{mostPacket}
@@ -25,7 +26,7 @@ use Rattle.recording.specs.Whole.Reads.{stays, refills}
 use Rattle.recording.specs.Whole.Cuts.{starts, reads, steps}
 use Rattle.recording.specs.declared.Progress.{Progress}
 use Rattle.recording.specs.declared.Advanced.{Advanced}
-use Rattle.recording.proofs.Windows.{uses}
+use Rattle.recording.proofs.Windows.{uses, step-keeps}
 use Rattle.recording.proofs.Whole.{pieces-as-whole}
 
 -- What topping a window up has read, so that with any bytes that follow it is one of the ways in which a file is read.
@@ -73,21 +74,14 @@ moved-first state normal redundant e =
 
 -- a step changes nothing of a window but where it starts
 ended-stays : (taken : Taken) (p : Progress) → (steppedOf taken p .normal .ended ≡ p .normal .ended) × (steppedOf taken p .redundant .ended ≡ p .redundant .ended)
-unfolding steppedOf
-ended-stays taken p = by (taken .normal) refl
-  where
-    by : (link : Bool) → taken .normal ≡ link → (steppedOf taken p .normal .ended ≡ p .normal .ended) × (steppedOf taken p .redundant .ended ≡ p .redundant .ended)
-    by true e = rw e (refl, refl)
-    by false e = rw e (refl, refl)
+ended-stays taken p =
+    step-keeps (λ (w : Window). w .ended ≡ p .normal .ended) (λ (w : Window). w .ended ≡ p .redundant .ended) taken p (λ _ was. was) (λ _ was. was) refl refl
 
 -- a step uses bytes of one window
 step-moves : (p : Progress) (taken : Taken) (normal redundant : ℕ) → UsesNoMore taken p → BothMovedNoMore p normal redundant → BothMovedNoMore (steppedOf taken p) normal redundant
-unfolding steppedOf
-step-moves p taken normal redundant used was = by (taken .normal) refl
-  where
-    by : (link : Bool) → taken .normal ≡ link → BothMovedNoMore (steppedOf taken p) normal redundant
-    by true e = rw e (moved-used mostPacket normal (taken .used) (p .normal) (used .0 e) (was .0), was .1)
-    by false e = rw e (was .0, moved-used mostPacket redundant (taken .used) (p .redundant) (used .1 e) (was .1))
+step-moves p taken normal redundant used was =
+    step-keeps (MovedNoMoreThanRead mostPacket normal) (MovedNoMoreThanRead mostPacket redundant) taken p (λ named. moved-used mostPacket normal (taken .used) (p .normal) (used .0 named))
+    (λ named. moved-used mostPacket redundant (taken .used) (p .redundant) (used .1 named)) (was .0) (was .1)
 
 -- a turn carries the cutting on
 module _ (callers : List ℕ) (ours : ℕ) (state : State) (normal redundant : List ℕ) (p : Progress) (out : List ℕ) (at : ℕ) (normalAfter redundantAfter outAfter : List ℕ) (a : Advanced)

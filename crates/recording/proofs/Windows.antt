@@ -39,12 +39,16 @@ uses normal redundant callers ours p l e =
     let each = by-link (t .normal) (p .normal .from) (p .redundant .from) (t .used) ns rs lent in
     subst (λ (t : Taken). UsesNoMore t p) (sym e) (λ n. omega (arith, each .0 n), λ r. omega (arith, each .1 r))
 
--- the windows after some bytes of the link that is named are used
-within-after : (normal : Bool) (used : ℕ) (n r : Window) (ns rs : ℕ)
-    → (normal ≡ true → n .from + used ≤ n .to) × (normal ≡ false → r .from + used ≤ r .to) → Within n ns → Within r rs
-    → Within (cond normal (usedOf used n) n) ns × Within (cond normal r (usedOf used r)) rs
-within-after true used n r ns rs u wn wr = ((u .0 refl, wn .1), wr)
-within-after false used n r ns rs u wn wr = (wn, (u .1 refl, wr .1))
+-- A step uses bytes of the window of the link that it names, and leaves the other: what each window has, and keeps when it is used, both have after it.
+pub step-keeps : (N R : Window → Type 0) (taken : Taken) (p : Progress) → (taken .normal ≡ true → N (p .normal) → N (usedOf (taken .used) (p .normal)))
+    → (taken .normal ≡ false → R (p .redundant) → R (usedOf (taken .used) (p .redundant))) → N (p .normal) → R (p .redundant)
+    → N (steppedOf taken p .normal) × R (steppedOf taken p .redundant)
+unfolding steppedOf
+step-keeps N R taken p normal redundant n r = by (taken .normal) refl
+  where
+    by : (link : Bool) → taken .normal ≡ link → N (steppedOf taken p .normal) × R (steppedOf taken p .redundant)
+    by true e = rw e (normal e n, r)
+    by false e = rw e (n, redundant e r)
 
 -- at most one packet more is counted
 counts-one : (handedUp : ℕ) (handed : Bool) → cond handed (handedUp + 1) handedUp ≤ handedUp + 1
@@ -55,8 +59,10 @@ pub lies-after : (ns rs : ℕ) (p after : Progress) (taken : Taken) → UsesNoMo
     → Lies after ns rs × (after .«handed_up» ≤ p .«handed_up» + 1)
 unfolding steppedOf countedOf
 lies-after ns rs p after taken u l e =
-    subst (λ (q : Progress). Lies q ns rs × (q .«handed_up» ≤ p .«handed_up» + 1)) (sym e)
-    (within-after (taken .normal) (taken .used) (p .normal) (p .redundant) ns rs u (l .0) (l .1), counts-one (p .«handed_up») (eqb (taken .answer) 0))
+    subst (λ (q : Progress). Lies q ns rs × (q .«handed_up» ≤ p .«handed_up» + 1)) (sym e) (
+      step-keeps (λ (w : Window). Within w ns) (λ (w : Window). Within w rs) taken p (λ named was. (u .0 named, was .1)) (λ named was. (u .1 named, was .1)) (l .0) (l .1),
+      counts-one (p .«handed_up») (eqb (taken .answer) 0),
+    )
 
 pub advances-agree : AdvancesAgree
 advances-agree normal redundant callers ours p before at after after′ r r′ one other =
