@@ -1,0 +1,190 @@
+-- Two links, one story, in either setting and for every lag that will do; and what follows from it.
+-- Assumes nothing.
+use Prim.Native.Nat.{ℕ, zero, suc, _+_, _≤_, _<_, max}
+use mathlib.Core.Path.{_≡_, refl, sym, ap, ap₂, _∙_, subst}
+use mathlib.Core.Bool.{Bool, true, false, not, false≢true}
+use mathlib.Core.List.{List, [], _∷_, _++_}
+use mathlib.Core.Logic.{inl, inr}
+use native.Mathlib.Omega.{arith}
+use lib.ListN.{take}
+use Rattle.links.specs.declared.State.{State}
+use Rattle.links.specs.declared.Taken.{Taken}
+use Rattle.links.specs.Table.{judgeable, rowsOf}
+use Rattle.link_promises.specs.Promises.{ofLink}
+use Rattle.one_story.specs.Sequence.{Packet, Gateway, SentFrom, Sequence}
+use Rattle.one_story.specs.Run.{Moment, linkOf, Lends, Drained, Run, Anything, Always}
+use Rattle.one_story.specs.OneStory.{NotFarBehind, bothBring, RunOf, BothUp, larger, TwoLinksOneStory, LooseOneStory, mostLag, AnyLagOneStory}
+use Rattle.one_story.specs.OneStory.{NeitherLags, NeverLagsOneStory, Supposed}
+use Rattle.one_story.specs.OneStory.{HandedUpInOrder, NothingWithheld, DrainedAt301}
+use Rattle.one_story.proofs.Pieces.{Next, next-of}
+use Rattle.one_story.proofs.Standing.{Stands}
+use Rattle.one_story.proofs.Judged.{stateAt, Hands, Drops, rows-take, next-one, earlier-one}
+use Rattle.one_story.proofs.Links.{Brought, lent-judgeable, not-all, stands-there, whole-used}
+use Rattle.one_story.proofs.Runs.{ltb-by, up-at, by-look, normalOf, redundantOf, Teller, run-holds}
+
+module _ (gateway : Gateway) (sent : List Packet) (q : Sequence gateway sent) (lag : ℕ) (enough : lag ≤ mostLag (gateway .strict)) where
+  module _ (m : Moment) (told : m .handed ≡ take (larger m) sent) (link : Bool) (near : NotFarBehind lag m link)
+      (n : Next gateway (linkOf link m .packets) sent (linkOf link m .packets)) (s : List ℕ) (at : ℕ) (r : Stands link (n .packet) s at) where
+    abbrev own : ℕ
+    own = linkOf link m .packets
+
+    abbrev other : ℕ
+    other = linkOf (not link) m .packets
+
+    larger-is : larger m ≡ max own other
+    larger-is = by link
+      where
+        by : (l : Bool) → larger m ≡ max (linkOf l m .packets) (linkOf (not l) m .packets)
+        by true = refl
+        by false = omega arith
+
+    larger-then : max (normalOf link (m .normal .packets)) (redundantOf link (m .redundant .packets)) ≡ max (suc own) other
+    larger-then = by link
+      where
+        by : (l : Bool) → max (normalOf l (m .normal .packets)) (redundantOf l (m .redundant .packets)) ≡ max (suc (linkOf l m .packets)) (linkOf (not l) m .packets)
+        by true = refl
+        by false = omega arith
+
+    hands : other ≤ own
+        → Hands gateway (n .packet) link s at r (larger m)
+        × (max (normalOf link (m .normal .packets)) (redundantOf link (m .redundant .packets)) ≡ suc own)
+        × (m .handed ++ (n .packet ∷ []) ≡ take (max (normalOf link (m .normal .packets)) (redundantOf link (m .redundant .packets))) sent)
+    hands h =
+        let now : larger m ≡ own = larger-is ∙ omega arith in
+        let then : max (normalOf link (m .normal .packets)) (redundantOf link (m .redundant .packets)) ≡ suc own = larger-then ∙ omega arith in (
+          subst (Hands gateway (n .packet) link s at r) (sym now) (next-one gateway (n .packet) link s at r own (n .sent)),
+          then,
+          ap (λ (l : List Packet). l ++ (n .packet ∷ [])) (told ∙ ap (λ (k : ℕ). take k sent) now) ∙ sym (n .so-far) ∙ ap (λ (k : ℕ). take k sent) (sym then),
+        )
+
+    drops : own < other
+        → Drops gateway (n .packet) link s at r (larger m)
+        × (max (normalOf link (m .normal .packets)) (redundantOf link (m .redundant .packets)) ≡ larger m)
+        × (m .handed ≡ take (max (normalOf link (m .normal .packets)) (redundantOf link (m .redundant .packets))) sent)
+    drops h =
+        let now : larger m ≡ other = larger-is ∙ omega arith in
+        let then : max (normalOf link (m .normal .packets)) (redundantOf link (m .redundant .packets)) ≡ larger m = larger-then ∙ omega (arith, larger-is) in (
+          earlier-one gateway (n .packet) link s at r own (larger m) (n .sent) (omega (arith, now)) (omega (arith, now, near, enough)),
+          then,
+          told ∙ ap (λ (k : ℕ). take k sent) (sym then),
+        )
+
+  -- the sequence, up to the larger number of packets used
+  pub teller : Teller gateway (bothBring sent) (NotFarBehind lag)
+  teller = record {
+    placeOf = λ link k. k;
+    placed = λ link. next-of gateway sent q;
+    done = λ a b. max a b;
+    Told = λ a b handed. handed ≡ take (max a b) sent;
+    at-start = (refl, refl);
+    judges = λ m told link near n s at r.
+        ltb-by (linkOf link m .packets) (linkOf (not link) m .packets) (λ h. inr (drops m told link near n s at r h)) (λ h. inl (hands m told link near n s at r h));
+  }
+
+-- what holds at every moment: what has been handed up, the state, and the links' own facts
+pub record Stand (gateway : Gateway) (sent : List Packet) (m : Moment) : Type 0 where
+  pub told : m .handed ≡ take (larger m) sent
+  pub state : m .state ≡ stateAt gateway (larger m)
+  pub links : (link : Bool) → Brought link sent (linkOf link m)
+
+pub stand-of : (gateway : Gateway) (sent : List Packet) (m : Moment) → Supposed gateway sent m → Stand gateway sent m
+unfolding teller
+stand-of gateway sent m x =
+    let h = run-holds (teller gateway sent (x .sequence) (x .lag) (x .enough)) (x .run) in
+    record { told = h .told; state = h .state; links = h .links }
+
+pub stand-up : (gateway : Gateway) (sent : List Packet) (m : Moment) → Stand gateway sent m → BothUp (m .state)
+stand-up gateway sent m h = up-at gateway (larger m) (m .state) (h .state)
+
+pub any-lag-one-story : AnyLagOneStory
+any-lag-one-story strict lag enough gateway e sent q m x =
+    let h = stand-of gateway sent m (record { sequence = q; lag = lag; enough = subst (λ (s : Bool). lag ≤ mostLag s) (sym e) enough; run = x }) in
+    record { told = h .told; read-normal = h .links true .read; read-redundant = h .links false .read; up = stand-up gateway sent m h }
+
+pub two-links-one-story : TwoLinksOneStory
+two-links-one-story = any-lag-one-story true 32768 (omega arith)
+
+pub loose-one-story : LooseOneStory
+loose-one-story = any-lag-one-story false 32768 (omega arith)
+
+-- ---- in the request's words
+
+-- a run of which more is supposed is one of which less is
+pub weaken : {gateway : Gateway} {brings : Bool → List Packet} {Near Near′ : Moment → Bool → Type 0}
+    → ((m : Moment) (link : Bool) → Near m link → Near′ m link) → {m : Moment} → Run gateway brings Near m → Run gateway brings Near′ m
+weaken less Run.begun = Run.begun
+weaken less (Run.arrives x link piece rest e) = Run.arrives (weaken less x) link piece rest e
+weaken less (Run.steps {m} x normal normalAt redundant redundantAt n r near) =
+    Run.steps (weaken less x) normal normalAt redundant redundantAt n r (λ link looks. less m link (near link looks))
+
+-- what holds at every moment holds at the last one
+now-too : {gateway : Gateway} {brings : Bool → List Packet} {Near : Moment → Bool → Type 0} (P : Moment → Type 0) {m : Moment} (run : Run gateway brings Near m)
+    → Always P run → P m
+now-too P Run.begun a = a
+now-too P (Run.arrives x link piece rest e) a = a .1
+now-too P (Run.steps x normal normalAt redundant redundantAt n r near) a = a .1
+
+never-lags-run : (gateway : Gateway) (sent : List Packet) (lag : ℕ) {m : Moment} (run : Run gateway (bothBring sent) Anything m) → Always (NeitherLags lag) run
+    → RunOf gateway sent lag m
+never-lags-run gateway sent lag Run.begun a = Run.begun
+never-lags-run gateway sent lag (Run.arrives x link piece rest e) a = Run.arrives (never-lags-run gateway sent lag x (a .0)) link piece rest e
+never-lags-run gateway sent lag (Run.steps x normal normalAt redundant redundantAt n r near) a =
+    Run.steps (never-lags-run gateway sent lag x (a .0)) normal normalAt redundant redundantAt n r (λ link looks. now-too (NeitherLags lag) x (a .0) link)
+
+pub never-lags-one-story : NeverLagsOneStory
+never-lags-one-story gateway e sent q m run a = two-links-one-story gateway e sent q m (never-lags-run gateway sent 32768 run a)
+
+-- ---- in order
+
+-- a first part of a sequence is one
+first-part : (gateway : Gateway) (place k : ℕ) (ps : List Packet) → SentFrom gateway place ps → SentFrom gateway place (take k ps)
+first-part gateway place zero ps g = tt
+first-part gateway place (suc k) [] g = tt
+first-part gateway place (suc k) (p ∷ ps) g = (g .0, first-part gateway (suc place) k ps (g .1))
+
+pub handed-up-in-order : HandedUpInOrder
+handed-up-in-order gateway sent m x =
+    subst (Sequence gateway) (sym (stand-of gateway sent m x .told)) (first-part gateway 0 (larger m) sent (x .sequence))
+
+-- ---- nothing is withheld
+
+pub nothing-withheld : NothingWithheld
+nothing-withheld gateway sent m x normal redundant a b wa wb =
+    let h = stand-of gateway sent m x in
+    h .told
+    ∙ ap₂ (λ (i j : ℕ). take (max i j) sent)
+    (whole-used gateway true sent (m .normal) (h .links true) (m .normal .arrived) (m .normal .used) refl (λ k. k) (next-of gateway sent (x .sequence)) normal a wa)
+    (whole-used gateway false sent (m .redundant) (h .links false) (m .redundant .arrived) (m .redundant .used) refl (λ k. k) (next-of gateway sent (x .sequence)) redundant b wb)
+
+-- a step that takes a packet of a link does not answer 301
+pub drained-at-301 : DrainedAt301
+drained-at-301 gateway sent m x normal normalAt redundant redundantAt ln lr = (
+  by-look gateway m (stand-up gateway sent m h) normal normalAt redundant redundantAt (λ (t : Taken). t .answer ≡ 301 → Drained (m .normal) × Drained (m .redundant))
+      (λ n r _. (sym (lent-judgeable (m .normal) normal normalAt ln) ∙ n, sym (lent-judgeable (m .redundant) redundant redundantAt lr) ∙ r))
+      (λ link _ _ e z. absurd (other-answer link e z)),
+  λ n r.
+      by-look gateway m (stand-up gateway sent m h) normal normalAt redundant redundantAt (λ (t : Taken). t .answer ≡ 301) (λ _ _. refl)
+      (λ link _ _ e. absurd (false≢true (sym (none link n r) ∙ e))),
+)
+  where
+    h : Stand gateway sent m
+    h = stand-of gateway sent m x
+
+    lent : (link : Bool) → Lends (linkOf link m) (ofLink link normal redundant) (ofLink link normalAt redundantAt)
+    lent true = ln
+    lent false = lr
+
+    none : (link : Bool) → Drained (m .normal) → Drained (m .redundant) → judgeable (ofLink link normal redundant) (ofLink link normalAt redundantAt) ≡ false
+    none true n r = lent-judgeable (m .normal) normal normalAt ln ∙ n
+    none false n r = lent-judgeable (m .redundant) redundant redundantAt lr ∙ r
+
+    other-answer : (link : Bool) → judgeable (ofLink link normal redundant) (ofLink link normalAt redundantAt) ≡ true
+        → rowsOf true link (ofLink link normal redundant) (ofLink link normalAt redundantAt) (gateway .callers) (gateway .ours) (m .state) .answer ≡ 301 → ⊥
+    other-answer link e z =
+        let s = ofLink link normal redundant in
+        let at = ofLink link normalAt redundantAt in
+        let all = not-all gateway link sent (linkOf link m) (h .links link) s at (lent link) e in
+        let n = next-of gateway sent (x .sequence) (linkOf link m .packets) all in
+        let r = stands-there gateway link sent (linkOf link m) (h .links link) s at (lent link) (linkOf link m .packets) n e in
+        rows-take gateway (n .packet) link s at r (larger m) (λ (t : Taken). t .answer ≡ 301 → ⊥) (λ answer u z. omega arith) (λ z. omega arith)
+        (ap (λ (y : State). rowsOf true link s at (gateway .callers) (gateway .ours) y .answer) (sym (h .state)) ∙ z)
