@@ -189,6 +189,13 @@ module _ (gateway : Gateway) (p : Packet) (normal : Bool) (s : List ℕ) (at : �
             let z : d ≡ place - last = d-of place g ∙ distance-ahead place last (ltb-false place last e) (omega arith) in
             not-taken (class-d gateway place p g normal) (λ n. let none : ⊥ = omega (arith, between n .0) in absurd none)
 
+    -- an earlier one that lies so far behind that its number is a later one's is handed up a second time
+    pub behind-taken : (place : ℕ) → Sent gateway (suc place) p → suc place < last → last < suc place + numbers
+        → suc place + numbers - last < behindFrom → tooFar (gateway .strict) (suc place + numbers - last) ≡ false → Hands (suc last)
+    behind-taken place g l h few t =
+        let e : d ≡ suc place + numbers - last = d-of (suc place) g ∙ distance-behind (suc place) last l h in
+        later-one place g (omega arith) (omega arith) (ap (tooFar (gateway .strict)) e ∙ t)
+
   -- the next one is handed up
   pub next-one : (place : ℕ) → Sent gateway place p → Hands place
   next-one zero g = first-one (g .kinded)

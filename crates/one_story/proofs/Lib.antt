@@ -6,3 +6,5 @@ pub mod Links
 pub mod Runs
 pub mod Story
 pub mod Silent
+pub mod Long
+pub mod Bound

@@ -110,7 +110,7 @@ loose-one-story = any-lag-one-story false 32768 (omega arith)
 -- ---- in the request's words
 
 -- a run of which more is supposed is one of which less is
-pub weaken : {gateway : Gateway} {brings : Bool → List Packet} {Near Near′ : Moment → Bool → Type 0}
+unfoldable pub weaken : {gateway : Gateway} {brings : Bool → List Packet} {Near Near′ : Moment → Bool → Type 0}
     → ((m : Moment) (link : Bool) → Near m link → Near′ m link) → {m : Moment} → Run gateway brings Near m → Run gateway brings Near′ m
 weaken less Run.begun = Run.begun
 weaken less (Run.arrives x link piece rest e) = Run.arrives (weaken less x) link piece rest e

@@ -4,3 +4,4 @@ pub mod Run
 pub mod OneStory
 pub mod Silent
 pub mod Arrivals
+pub mod Met
