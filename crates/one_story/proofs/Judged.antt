@@ -1,7 +1,7 @@
 -- What the rows answer to a packet of the sequence on the link looked at, by its place and by how many places of the sequence are done with.
 -- Assumes nothing.
 use Prim.Native.Nat.{ℕ, zero, suc, _+_, _-_, _%_, _≤_, _<_}
-use mathlib.Core.Path.{_≡_, refl, sym, ap, _∙_, subst}
+use mathlib.Core.Path.{_≡_, refl, sym, ap, ap₂, _∙_, subst}
 use mathlib.Core.Bool.{Bool, true, false, not, _&&_, _||_}
 use mathlib.Core.List.{List}
 use native.Mathlib.Omega.{arith}
@@ -188,6 +188,12 @@ module _ (gateway : Gateway) (p : Packet) (normal : Bool) (s : List ℕ) (at : �
         by false e =
             let z : d ≡ place - last = d-of place g ∙ distance-ahead place last (ltb-false place last e) (omega arith) in
             not-taken (class-d gateway place p g normal) (λ n. let none : ⊥ = omega (arith, between n .0) in absurd none)
+
+    -- one beyond the next is dropped in the strict setting
+    pub beyond : (place : ℕ) → Sent gateway place p → suc last < place → place < last + numbers → gateway .strict ≡ true → Drops (suc last)
+    beyond place g l h strict =
+        let e : d ≡ place - last = d-of place g ∙ distance-ahead place last (omega arith) h in
+        not-taken (class-d gateway place p g normal) (λ _. ap₂ tooFar strict e ∙ two-far (place - last) (omega arith))
 
     -- an earlier one that lies so far behind that its number is a later one's is handed up a second time
     pub behind-taken : (place : ℕ) → Sent gateway (suc place) p → suc place < last → last < suc place + numbers

@@ -8,3 +8,4 @@ pub mod Story
 pub mod Silent
 pub mod Long
 pub mod Bound
+pub mod Losses

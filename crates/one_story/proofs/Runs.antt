@@ -108,21 +108,21 @@ redundantOf link n = cond link n (suc n)
 pub record Teller (gateway : Gateway) (brings : Bool → List Packet) (Near : Moment → Bool → Type 0) : Type 1 where
   pub placeOf : Bool → ℕ → ℕ
   pub placed : (link : Bool) → Placed gateway (brings link) (placeOf link)
-  pub done : ℕ → ℕ → ℕ
+  pub done : ℕ → ℕ → List Packet → ℕ
   pub Told : ℕ → ℕ → List Packet → Type 0
-  pub at-start : (done 0 0 ≡ 0) × Told 0 0 []
-  pub judges : (m : Moment) → Told (m .normal .packets) (m .redundant .packets) (m .handed) → (link : Bool) → Near m link
+  pub at-start : (done 0 0 [] ≡ 0) × Told 0 0 []
+  pub judges : (m : Moment) → Told (m .normal .packets) (m .redundant .packets) (m .handed) → (link : Bool) → Near m link → linkOf link m .packets < length (brings link)
       → (n : Next gateway (placeOf link (linkOf link m .packets)) (brings link) (linkOf link m .packets)) (s : List ℕ) (at : ℕ) (r : Stands link (n .packet) s at)
-      → (Hands gateway (n .packet) link s at r (done (m .normal .packets) (m .redundant .packets))
-      × (done (normalOf link (m .normal .packets)) (redundantOf link (m .redundant .packets)) ≡ suc (placeOf link (linkOf link m .packets)))
-      × Told (normalOf link (m .normal .packets)) (redundantOf link (m .redundant .packets)) (m .handed ++ (n .packet ∷ [])))
-      ⊎ (Drops gateway (n .packet) link s at r (done (m .normal .packets) (m .redundant .packets))
-      × (done (normalOf link (m .normal .packets)) (redundantOf link (m .redundant .packets)) ≡ done (m .normal .packets) (m .redundant .packets))
-      × Told (normalOf link (m .normal .packets)) (redundantOf link (m .redundant .packets)) (m .handed))
+      → let now = done (m .normal .packets) (m .redundant .packets) (m .handed) in
+      let a = normalOf link (m .normal .packets) in
+      let b = redundantOf link (m .redundant .packets) in
+      let handed = m .handed ++ (n .packet ∷ []) in
+      (Hands gateway (n .packet) link s at r now × (done a b handed ≡ suc (placeOf link (linkOf link m .packets))) × Told a b handed)
+      ⊎ (Drops gateway (n .packet) link s at r now × (done a b (m .handed) ≡ now) × Told a b (m .handed))
 
 module _ {gateway : Gateway} {brings : Bool → List Packet} {Near : Moment → Bool → Type 0} (teller : Teller gateway brings Near) where
   abbrev pub doneAt : Moment → ℕ
-  doneAt m = teller .done (m .normal .packets) (m .redundant .packets)
+  doneAt m = teller .done (m .normal .packets) (m .redundant .packets) (m .handed)
 
   -- what holds at every moment
   pub record Holds (m : Moment) : Type 0 where
@@ -164,8 +164,11 @@ module _ {gateway : Gateway} {brings : Bool → List Packet} {Near : Moment → 
       abbrev k : ℕ
       k = linkOf link m .packets
 
+      not-last : k < length (brings link)
+      not-last = not-all gateway link (brings link) (linkOf link m) (h .links link) (ofLink link normal redundant) (ofLink link normalAt redundantAt) (lent link) e
+
       pub next-there : Next gateway (teller .placeOf link k) (brings link) k
-      next-there = teller .placed link k (not-all gateway link (brings link) (linkOf link m) (h .links link) (ofLink link normal redundant) (ofLink link normalAt redundantAt) (lent link) e)
+      next-there = teller .placed link k not-last
 
       pub reads-there : Stands link (next-there .packet) (ofLink link normal redundant) (ofLink link normalAt redundantAt)
       reads-there =
@@ -173,7 +176,7 @@ module _ {gateway : Gateway} {brings : Bool → List Packet} {Near : Moment → 
 
       -- a step that names the link, uses the packet there and leaves such a state and such a story
       used-then : (t : Taken) → t .normal ≡ link → t .used ≡ packetHeaderSize + length (next-there .packet .userData)
-          → t .state ≡ stateAt gateway (teller .done (normalOf link (m .normal .packets)) (redundantOf link (m .redundant .packets)))
+          → t .state ≡ stateAt gateway (teller .done (normalOf link (m .normal .packets)) (redundantOf link (m .redundant .packets)) (m .handed ++ handedBy normal redundant t))
           → teller .Told (normalOf link (m .normal .packets)) (redundantOf link (m .redundant .packets)) (m .handed ++ handedBy normal redundant t)
           → Holds (after normal redundant t m)
       used-then t name used state told = by link refl name state told
@@ -197,7 +200,7 @@ module _ {gateway : Gateway} {brings : Bool → List Packet} {Near : Moment → 
           named : (l : Bool) → t .normal ≡ l → after normal redundant t m ≡ moment l
           named l e = ap moment e
 
-          by : (l : Bool) → link ≡ l → t .normal ≡ l → t .state ≡ stateAt gateway (teller .done (normalOf l (m .normal .packets)) (redundantOf l (m .redundant .packets)))
+          by : (l : Bool) → link ≡ l → t .normal ≡ l → t .state ≡ stateAt gateway (teller .done (normalOf l (m .normal .packets)) (redundantOf l (m .redundant .packets)) (m .handed ++ handedBy normal redundant t))
               → teller .Told (normalOf l (m .normal .packets)) (redundantOf l (m .redundant .packets)) (m .handed ++ handedBy normal redundant t)
               → Holds (after normal redundant t m)
           by true same name state told =
@@ -205,7 +208,7 @@ module _ {gateway : Gateway} {brings : Bool → List Packet} {Near : Moment → 
               subst (λ (x : Moment). Holds x) (sym (named true name))
               (record {
                 told = subst (λ (n : ℕ). teller .Told n (m .redundant .packets) (m .handed ++ handedBy normal redundant t)) count told;
-                state = state ∙ ap (λ (n : ℕ). stateAt gateway (teller .done n (m .redundant .packets))) count;
+                state = state ∙ ap (λ (n : ℕ). stateAt gateway (teller .done n (m .redundant .packets) (m .handed ++ handedBy normal redundant t))) count;
                 links = both;
               })
             where
@@ -217,7 +220,7 @@ module _ {gateway : Gateway} {brings : Bool → List Packet} {Near : Moment → 
               subst (λ (x : Moment). Holds x) (sym (named false name))
               (record {
                 told = subst (λ (n : ℕ). teller .Told (m .normal .packets) n (m .handed ++ handedBy normal redundant t)) count told;
-                state = state ∙ ap (λ (n : ℕ). stateAt gateway (teller .done (m .normal .packets) n)) count;
+                state = state ∙ ap (λ (n : ℕ). stateAt gateway (teller .done (m .normal .packets) n (m .handed ++ handedBy normal redundant t))) count;
                 links = both;
               })
             where
@@ -230,25 +233,30 @@ module _ {gateway : Gateway} {brings : Bool → List Packet} {Near : Moment → 
           subst (λ (x : State). Holds (after normal redundant (rowsOf true link s at (gateway .callers) (gateway .ours) x) m)) (sym (h .state))
           (⊎-elim
           (λ hands.
+          let up = sym (ap (λ (l : List Packet). m .handed ++ l) (hands-up normal redundant link at (stateAt gateway (doneAt m)) (next-there .packet) reads-there)) in
           subst (λ (t : Taken). Holds (after normal redundant t m)) (sym (hands .0))
           (used-then (handedUp link at header (stateAt gateway (doneAt m))) refl size
           (ap (λ (n : ℕ). rememberedOf n (stateAt gateway (doneAt m))) (reads-there .same-number ∙ next-there .sent .numbered)
-          ∙ remembers gateway (teller .placeOf link k) (doneAt m) ∙ ap (stateAt gateway) (sym (hands .1)))
-          (subst (λ (l : List Packet). teller .Told (normalOf link (m .normal .packets)) (redundantOf link (m .redundant .packets)) (m .handed ++ l))
-          (sym (hands-up normal redundant link at (stateAt gateway (doneAt m)) (next-there .packet) reads-there)) (hands .2))))
+          ∙ remembers gateway (teller .placeOf link k) (doneAt m) ∙ ap (stateAt gateway) (sym (hands .1) ∙ ap (teller .done a b) up))
+          (subst (teller .Told a b) up (hands .2))))
           (λ drops.
           let t = dropped (drops .0 .answer) link header (stateAt gateway (doneAt m)) in
+          let none = sym (ap (λ (l : List Packet). m .handed ++ l) (hands-nothing normal redundant t (λ z. omega (arith, drops .0 .used))) ∙ append-nil (m .handed)) in
           subst (λ (t : Taken). Holds (after normal redundant t m)) (sym (drops .0 .is))
-          (used-then t refl size (ap (stateAt gateway) (sym (drops .1)))
-          (subst (λ (l : List Packet). teller .Told (normalOf link (m .normal .packets)) (redundantOf link (m .redundant .packets)) l)
-          (sym (ap (λ (l : List Packet). m .handed ++ l) (hands-nothing normal redundant t (λ z. omega (arith, drops .0 .used))) ∙ append-nil (m .handed))) (drops .2))))
-          (teller .judges m (h .told) link near next-there s at reads-there))
+          (used-then t refl size (ap (stateAt gateway) (sym (drops .1) ∙ ap (teller .done a b) none)) (subst (teller .Told a b) none (drops .2))))
+          (teller .judges m (h .told) link near not-last next-there s at reads-there))
         where
           s : List ℕ
           s = ofLink link normal redundant
 
           at : ℕ
           at = ofLink link normalAt redundantAt
+
+          a : ℕ
+          a = normalOf link (m .normal .packets)
+
+          b : ℕ
+          b = redundantOf link (m .redundant .packets)
 
           header : Header
           header = packetHeaderAt s at

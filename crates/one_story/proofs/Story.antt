@@ -74,10 +74,10 @@ module _ (gateway : Gateway) (sent : List Packet) (q : Sequence gateway sent) (l
   teller = record {
     placeOf = λ link k. k;
     placed = λ link. next-of gateway sent q;
-    done = λ a b. max a b;
+    done = λ a b handed. max a b;
     Told = λ a b handed. handed ≡ take (max a b) sent;
     at-start = (refl, refl);
-    judges = λ m told link near n s at r.
+    judges = λ m told link near l n s at r.
         ltb-by (linkOf link m .packets) (linkOf (not link) m .packets) (λ h. inr (drops m told link near n s at r h)) (λ h. inl (hands m told link near n s at r h));
   }
 

@@ -5,3 +5,4 @@ pub mod OneStory
 pub mod Silent
 pub mod Arrivals
 pub mod Met
+pub mod Losses
