@@ -13,7 +13,7 @@ use Rattle.links.specs.declared.Taken.{Taken}
 use Rattle.links.specs.Table.{judgeable, tooFar, rowsOf}
 use Rattle.link_promises.specs.Promises.{ofLink, looksAt}
 use Rattle.one_story.specs.Sequence.{Packet, Gateway, Sent, Sequence, packetOn, bytesOn}
-use Rattle.one_story.specs.Run.{Link, Moment, linkOf, start, arrivedOn, Drained, handedBy, after, stepOf, Run, Anything, Always}
+use Rattle.one_story.specs.Run.{Link, Moment, linkOf, start, arrivedOn, Drained, handedBy, takenThen, stepped, Run, Anything, Always}
 use Rattle.one_story.specs.OneStory.{NotFarBehind, bothBring, RunOf, Story, larger, mostLag, NoMoreThanThat, LagIsNeeded}
 use Rattle.one_story.specs.Arrivals.{InStep, ArrivalsNotEnough}
 use Rattle.one_story.specs.Met.{initiator, longSequence}
@@ -23,7 +23,7 @@ use Rattle.one_story.proofs.Judged.{stateAt, Hands, behind-taken}
 use Rattle.one_story.proofs.Links.{not-all, stands-there, holds-next}
 use Rattle.one_story.proofs.Runs.{ltb-by, hands-up, by-look}
 use Rattle.one_story.proofs.Story.{Stand, stand-up, weaken}
-use Rattle.one_story.proofs.Long.{stepped, OneMore, looked-is, used-one, HasBrought, Comes, comes, drained-at, stand, Used, comes-and-is-used, long-may-be-sent}
+use Rattle.one_story.proofs.Long.{OneMore, looked-is, used-one, HasBrought, Comes, comes, drained-at, stand, Used, comes-and-is-used, long-may-be-sent}
 
 -- what held at every moment of a run holds where less is supposed
 weaken-always : {gateway : Gateway} {brings : Bool → List Packet} {Near Near′ : Moment → Bool → Type 0} (P : Moment → Type 0)
@@ -272,7 +272,7 @@ module _ (gateway : Gateway) (sent : List Packet) (q : Sequence gateway sent) wh
             few true = omega arith
             few false = omega arith
 
-        handed : handedBy (m .normal .arrived) (m .redundant .arrived) (stepOf gateway (m .normal .arrived) (m .normal .used) (m .redundant .arrived) (m .redundant .used) m) ≡ n .packet ∷ []
+        handed : handedBy (m .normal .arrived) (m .redundant .arrived) (takenThen gateway m) ≡ n .packet ∷ []
         handed =
             by-look gateway m (stand-up gateway sent m h) (m .normal .arrived) (m .normal .used) (m .redundant .arrived) (m .redundant .used)
             (λ (t : Taken). handedBy (m .normal .arrived) (m .redundant .arrived) t ≡ n .packet ∷ []) (λ _ r. absurd (false≢true (sym r ∙ there))) by
@@ -290,9 +290,8 @@ module _ (gateway : Gateway) (sent : List Packet) (q : Sequence gateway sent) wh
 
         wrong : Story sent (stepped gateway m) → ⊥
         wrong claim =
-            let t = stepOf gateway (m .normal .arrived) (m .normal .used) (m .redundant .arrived) (m .redundant .used) m in
             let size = ap length (claim .told) ∙ length-take (larger (stepped gateway m)) sent in
-            let sum = length-append (m .handed) (handedBy (m .normal .arrived) (m .redundant .arrived) t) in
+            let sum = length-append (m .handed) (handedBy (m .normal .arrived) (m .redundant .arrived) (takenThen gateway m)) in
             let last = ap length handed in
             omega (arith, size, sum, last, ap length (h .told), length-take (larger m) sent, all, long)
 

@@ -9,3 +9,4 @@ pub mod Silent
 pub mod Long
 pub mod Bound
 pub mod Losses
+pub mod Worked

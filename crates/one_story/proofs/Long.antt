@@ -20,7 +20,7 @@ use Rattle.links.specs.Table.{judgeable, held, rowsOf}
 use Rattle.links.proofs.Bools.{both-true}
 use Rattle.link_promises.specs.Promises.{ofLink, looksAt}
 use Rattle.one_story.specs.Sequence.{Packet, Gateway, SentFrom, Sequence, packetOn, bytesOn}
-use Rattle.one_story.specs.Run.{Link, Moment, linkOf, nothingYet, start, arrivedOn, Lends, Drained, packetsOf, usedUp, after, stepOf, Run, Always}
+use Rattle.one_story.specs.Run.{Link, Moment, linkOf, nothingYet, start, arrivedOn, Lends, Drained, packetsOf, usedUp, after, stepped, Run, Always}
 use Rattle.one_story.specs.OneStory.{NotFarBehind, RunOf, BothUp, larger, mostLag, Supposed}
 use Rattle.one_story.specs.Arrivals.{InStep}
 use Rattle.one_story.specs.Met.{ToldInTurn, ToldAlone, CanBeTold, initiator, dataFrom, longSequence, numbersOf, LongMayBeSent, GoesPastTheWrap}
@@ -31,10 +31,6 @@ use Rattle.one_story.proofs.Runs.{by-look}
 use Rattle.one_story.proofs.Story.{Stand, stand-of, stand-up}
 
 -- ---- one step over all that has arrived
-
-abbrev pub stepped : Gateway → Moment → Moment
-stepped gateway m =
-    after (m .normal .arrived) (m .redundant .arrived) (stepOf gateway (m .normal .arrived) (m .normal .used) (m .redundant .arrived) (m .redundant .used) m) m
 
 -- no bytes hold nothing
 nothing-to-judge : Drained nothingYet

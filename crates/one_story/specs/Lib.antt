@@ -6,3 +6,4 @@ pub mod Silent
 pub mod Arrivals
 pub mod Met
 pub mod Losses
+pub mod Worked

@@ -100,6 +100,13 @@ abbrev pub stepOf : Gateway → List ℕ → ℕ → List ℕ → ℕ → Moment
 stepOf gateway normal normalAt redundant redundantAt m =
     takenOf normal normalAt redundant redundantAt (gateway .callers) (gateway .ours) (m .state)
 
+-- STORY-RUN: the step over all that has arrived, and the moment after it:
+abbrev pub takenThen : Gateway → Moment → Taken
+takenThen gateway m = stepOf gateway (m .normal .arrived) (m .normal .used) (m .redundant .arrived) (m .redundant .used) m
+
+abbrev pub stepped : Gateway → Moment → Moment
+stepped gateway m = after (m .normal .arrived) (m .redundant .arrived) (takenThen gateway m) m
+
 -- STORY-RUN: every moment that can be reached. `brings` is what each link would bring in all: so much of its bytes, in order and
 -- undamaged, as has arrived. `Near` is what is supposed of a moment and of a link from which a packet is taken then.
 pub data Run (gateway : Gateway) (brings : Bool → List Packet) (Near : Moment → Bool → Type 0) : Moment → Type 0 where

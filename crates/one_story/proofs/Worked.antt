@@ -1,0 +1,217 @@
+-- The worked runs, by computation.
+-- Assumes nothing.
+use Prim.Native.Nat.{ℕ, _+_, _≤_, _<_}
+use mathlib.Core.Path.{_≡_, refl, sym, ap, _∙_, subst}
+use mathlib.Core.Bool.{Bool, true, false, not}
+use mathlib.Core.List.{List, [], _∷_, _++_, List·Memᴰ, List·Memᴰ·head, List·Memᴰ·tail}
+use mathlib.Core.Logic.{_⊎_, inl, inr, ⊎-elim}
+use native.Mathlib.Omega.{arith}
+use lib.Dec.{lit<, lit≤}
+use lib.ListN.{length, take, drop, getD}
+use Rattle.rules.specs.Modulo.{modulo}
+use Rattle.number.specs.Number.{distanceOf}
+use Rattle.field.specs.Field.{fieldOf, bytesOf}
+use Rattle.packet.specs.Check.{bitIn, bitsIn, bytesIn}
+use Rattle.packet_types.specs.Types.{callerOf, calledOf, classesOf, leastOf, inClassD, opens, openingFault}
+use Rattle.links.specs.Callers.{listed, notAllowed}
+use Rattle.links.specs.Table.{lengthFault, judgeable, bothDown, notOpening, notLater, tooFar, linkRows, classDRows, takenOf, userDataOf}
+use Rattle.one_story.specs.Sequence.{Packet, Gateway, Sequence, packetOn, bytesOn}
+use Rattle.one_story.specs.Run.{Moment, linkOf, start, arrivedOn, handedBy, takenThen, stepped, Run}
+use Rattle.one_story.specs.OneStory.{NotFarBehind, RunOf}
+use Rattle.one_story.specs.Losses.{noPacket, packetsAt, Keeps, broughtOf, furthest, nextOn, NotFarApart, NotFarFromTold, LateIsMissing}
+use Rattle.one_story.specs.Met.{numbersOf}
+use Rattle.one_story.specs.Worked.{responder, four, fourOn, with, Answers, mixed, MixedSteps, WorkedRun, keeps, threeOnNormal, lossy, LooseSteps, StrictSteps, WorkedLoss}
+
+four-sent : (strict : Bool) → Sequence (responder strict) four
+unfolding openingFault leastOf fieldOf notAllowed listed callerOf calledOf
+four-sent strict = (
+  record {
+    version-fits = lit< tt;
+    application-fits = lit< tt;
+    numbered = refl;
+    short = lit≤ tt;
+    kinded = record { opening = refl; acceptable = refl; allowed = λ _. refl };
+  },
+  (
+    record { version-fits = lit< tt; application-fits = lit< tt; numbered = refl; short = lit≤ tt; kinded = inl refl },
+    (
+      record { version-fits = lit< tt; application-fits = lit< tt; numbered = refl; short = lit≤ tt; kinded = inl refl },
+      (record { version-fits = lit< tt; application-fits = lit< tt; numbered = refl; short = lit≤ tt; kinded = inr refl }, tt),
+    ),
+  ),
+)
+
+bytes-right : (bytesOn true four ≡ fourOn true) × (bytesOn false four ≡ fourOn false)
+unfolding packetOn bytesOf bitIn bitsIn bytesIn
+bytes-right = (refl, refl)
+
+three-right : bytesOn true (broughtOf four keeps true) ≡ threeOnNormal
+unfolding packetOn bytesOf bitIn bitsIn bytesIn
+three-right = refl
+
+-- ---- the steps
+
+mixed-steps : MixedSteps
+unfolding lengthFault judgeable bothDown notOpening notLater tooFar linkRows classDRows takenOf fieldOf inClassD classesOf opens openingFault leastOf notAllowed listed callerOf calledOf distanceOf modulo bitIn bitsIn bytesIn handedBy userDataOf
+mixed-steps = record {
+  nothing-whole = (refl, refl);
+  opened = (refl, refl);
+  opened-again = (refl, refl);
+  overtakes = (refl, refl);
+  catches-up = (refl, refl);
+  third = (refl, refl);
+  released = (refl, refl);
+  drained = (refl, refl);
+}
+
+loose-steps : LooseSteps
+unfolding lengthFault judgeable bothDown notOpening notLater tooFar linkRows classDRows takenOf fieldOf inClassD classesOf opens openingFault leastOf notAllowed listed callerOf calledOf distanceOf modulo bitIn bitsIn bytesIn handedBy userDataOf
+loose-steps = record {
+  first = (refl, refl);
+  second = (refl, refl);
+  skips = (refl, refl);
+  first-again = (refl, refl);
+  second-again = (refl, refl);
+  late = (refl, refl);
+}
+
+strict-steps : StrictSteps
+unfolding lengthFault judgeable bothDown notOpening notLater tooFar linkRows classDRows takenOf fieldOf inClassD classesOf opens openingFault leastOf notAllowed listed callerOf calledOf distanceOf modulo bitIn bitsIn bytesIn handedBy userDataOf
+strict-steps = record {
+  first = (refl, refl);
+  second = (refl, refl);
+  waits = (refl, refl);
+  first-again = (refl, refl);
+  second-again = (refl, refl);
+  comes = (refl, refl);
+  last = (refl, refl);
+}
+
+-- ---- the runs
+
+-- a step over all that has arrived, once what is supposed of it holds
+goes : {gateway : Gateway} {brings : Bool → List Packet} {Near : Moment → Bool → Type 0} (m : Moment) → ((normal : Bool) → Near m normal) → (answer : ℕ) (n : Moment)
+    → Answers gateway m answer n → Run gateway brings Near m → Run gateway brings Near n
+goes {gateway} {brings} {Near} m near answer n a x =
+    subst (Run gateway brings Near) (a .1)
+    (Run.steps x (m .normal .arrived) (m .normal .used) (m .redundant .arrived) (m .redundant .used) refl refl (λ normal looks. near normal))
+
+-- few packets are used
+few : (m : Moment) → m .normal .packets ≤ 4 → m .redundant .packets ≤ 4 → (normal : Bool) → NotFarBehind 32768 m normal
+few m a b true = omega arith
+few m a b false = omega arith
+
+-- a piece arrives; of these bytes what is left is still to come
+more : {gateway : Gateway} {brings : Bool → List Packet} {Near : Moment → Bool → Type 0} (bytes : List ℕ) (normal : Bool) (n : ℕ) (m : Moment) (rest : List ℕ)
+    → bytesOn normal (brings normal) ≡ bytes → (linkOf normal m .arrived ++ take n (drop (length (linkOf normal m .arrived)) bytes)) ++ rest ≡ bytes
+    → Run gateway brings Near m → Run gateway brings Near (with bytes normal n m)
+more bytes normal n m rest e f x = Run.arrives x normal (take n (drop (length (linkOf normal m .arrived)) bytes)) rest (f ∙ sym e)
+
+abbrev Mixed : Moment → Type 0
+Mixed m = RunOf (responder true) four 32768 m
+
+mixed-step : (m : Moment) → m .normal .packets ≤ 4 → m .redundant .packets ≤ 4 → (answer : ℕ) (n : Moment) → Answers (responder true) m answer n → Mixed m → Mixed n
+mixed-step m a b answer n s x = goes m (few m a b) answer n s x
+
+mixed-more : (normal : Bool) (n : ℕ) (m : Moment) (rest : List ℕ)
+    → (linkOf normal m .arrived ++ take n (drop (length (linkOf normal m .arrived)) (fourOn normal))) ++ rest ≡ fourOn normal → Mixed m → Mixed (with (fourOn normal) normal n m)
+mixed-more normal n m rest f x = more (fourOn normal) normal n m rest (by normal) f x
+  where
+    by : (normal : Bool) → bytesOn normal four ≡ fourOn normal
+    by true = bytes-right .0
+    by false = bytes-right .1
+
+mixed-run : Mixed (mixed 34 31 2 52 52 4 (0 ∷ 1 ∷ 2 ∷ 3 ∷ []))
+mixed-run =
+    let a = mixed-step _ (lit≤ tt) (lit≤ tt) 301 _ (mixed-steps .nothing-whole) (mixed-more false 5 (start (responder true)) (drop 5 (fourOn false)) refl Run.begun) in
+    let b = mixed-step _ (lit≤ tt) (lit≤ tt) 0 _ (mixed-steps .opened) (mixed-more true 22 (mixed 0 0 0 5 0 0 []) (drop 22 (fourOn true)) refl a) in
+    let c = mixed-step _ (lit≤ tt) (lit≤ tt) 306 _ (mixed-steps .opened-again) (mixed-more false 29 (mixed 22 19 1 5 0 0 (0 ∷ [])) (drop 34 (fourOn false)) refl b) in
+    let d = mixed-step _ (lit≤ tt) (lit≤ tt) 0 _ (mixed-steps .overtakes) c in
+    let e = mixed-step _ (lit≤ tt) (lit≤ tt) 306 _ (mixed-steps .catches-up) (mixed-more true 12 (mixed 22 19 1 34 31 2 (0 ∷ 1 ∷ [])) (drop 34 (fourOn true)) refl d) in
+    let f = mixed-step _ (lit≤ tt) (lit≤ tt) 0 _ (mixed-steps .third) (mixed-more false 7 (mixed 34 31 2 34 31 2 (0 ∷ 1 ∷ [])) (drop 41 (fourOn false)) refl e) in
+    mixed-step _ (lit≤ tt) (lit≤ tt) 0 _ (mixed-steps .released) (mixed-more false 11 (mixed 34 31 2 41 41 3 (0 ∷ 1 ∷ 2 ∷ [])) [] refl f)
+
+pub worked-run : WorkedRun
+worked-run = record { sequence = four-sent true; bytes = bytes-right; steps = mixed-steps; run = mixed-run }
+
+-- ---- the links that lose a packet
+
+both-kept : (normal : Bool) → Keeps four (keeps normal)
+both-kept true = record { in-order = (lit≤ tt, lit< tt, (lit≤ tt, lit< tt, (lit≤ tt, lit< tt, tt))); opening = refl }
+both-kept false = record { in-order = (lit≤ tt, lit< tt, (lit≤ tt, lit< tt, (lit≤ tt, lit< tt, (lit≤ tt, lit< tt, tt)))); opening = refl }
+
+-- all bytes arrive on both links
+arrived-on-both : (strict : Bool) {Near : Moment → Bool → Type 0} → Run (responder strict) (broughtOf four keeps) Near (lossy strict 0 0 0 0 [])
+arrived-on-both strict =
+    more (fourOn false) false 52 (with threeOnNormal true 42 (start (responder strict))) [] (bytes-right .1) refl
+    (more threeOnNormal true 42 (start (responder strict)) [] three-right refl Run.begun)
+
+-- few places are passed
+few-apart : (m : Moment) → furthest keeps m ≤ 4 → nextOn keeps m true ≤ 4 → nextOn keeps m false ≤ 4 → (normal : Bool) → NotFarApart keeps m normal
+few-apart m a b c true = (omega arith, omega arith)
+few-apart m a b c false = (omega arith, omega arith)
+
+few-told : (m : Moment) → length (m .handed) ≤ 4 → nextOn keeps m true ≤ 4 → nextOn keeps m false ≤ 4 → (normal : Bool) → NotFarFromTold keeps m normal
+few-told m a b c true = (omega arith, omega arith)
+few-told m a b c false = (omega arith, omega arith)
+
+abbrev Loose : Moment → Type 0
+Loose m = Run (responder false) (broughtOf four keeps) (NotFarApart keeps) m
+
+loose-step : (m : Moment) → furthest keeps m ≤ 4 → nextOn keeps m true ≤ 4 → nextOn keeps m false ≤ 4 → (answer : ℕ) (n : Moment) → Answers (responder false) m answer n
+    → Loose m → Loose n
+loose-step m a b c answer n s x = goes m (few-apart m a b c) answer n s x
+
+loose-run : Loose (lossy false 42 3 41 3 (0 ∷ 1 ∷ 3 ∷ []))
+loose-run =
+    let a = loose-step _ (lit≤ tt) (lit≤ tt) (lit≤ tt) 0 _ (loose-steps .first) (arrived-on-both false) in
+    let b = loose-step _ (lit≤ tt) (lit≤ tt) (lit≤ tt) 0 _ (loose-steps .second) a in
+    let c = loose-step _ (lit≤ tt) (lit≤ tt) (lit≤ tt) 0 _ (loose-steps .skips) b in
+    let d = loose-step _ (lit≤ tt) (lit≤ tt) (lit≤ tt) 306 _ (loose-steps .first-again) c in
+    let e = loose-step _ (lit≤ tt) (lit≤ tt) (lit≤ tt) 306 _ (loose-steps .second-again) d in
+    loose-step _ (lit≤ tt) (lit≤ tt) (lit≤ tt) 306 _ (loose-steps .late) e
+
+abbrev Strict : Moment → Type 0
+Strict m = Run (responder true) (broughtOf four keeps) (NotFarFromTold keeps) m
+
+strict-step : (m : Moment) → length (m .handed) ≤ 4 → nextOn keeps m true ≤ 4 → nextOn keeps m false ≤ 4 → (answer : ℕ) (n : Moment) → Answers (responder true) m answer n
+    → Strict m → Strict n
+strict-step m a b c answer n s x = goes m (few-told m a b c) answer n s x
+
+strict-run : Strict (lossy true 42 3 52 4 (0 ∷ 1 ∷ 2 ∷ 3 ∷ []))
+strict-run =
+    let a = strict-step _ (lit≤ tt) (lit≤ tt) (lit≤ tt) 0 _ (strict-steps .first) (arrived-on-both true) in
+    let b = strict-step _ (lit≤ tt) (lit≤ tt) (lit≤ tt) 0 _ (strict-steps .second) a in
+    let c = strict-step _ (lit≤ tt) (lit≤ tt) (lit≤ tt) 307 _ (strict-steps .waits) b in
+    let d = strict-step _ (lit≤ tt) (lit≤ tt) (lit≤ tt) 306 _ (strict-steps .first-again) c in
+    let e = strict-step _ (lit≤ tt) (lit≤ tt) (lit≤ tt) 306 _ (strict-steps .second-again) d in
+    let f = strict-step _ (lit≤ tt) (lit≤ tt) (lit≤ tt) 0 _ (strict-steps .comes) e in
+    strict-step _ (lit≤ tt) (lit≤ tt) (lit≤ tt) 0 _ (strict-steps .last) f
+
+pub worked-loss : WorkedLoss
+worked-loss = record {
+  kept = both-kept;
+  bytes = three-right;
+  loose-steps = loose-steps;
+  loose-run = loose-run;
+  strict-steps = strict-steps;
+  strict-run = strict-run;
+}
+
+-- ---- what comes late is missing
+
+-- the number of a packet at one of these places is among their packets' numbers
+number-there : (place : ℕ) (places : List ℕ) → List·Memᴰ place places → List·Memᴰ (getD four place noPacket .number) (numbersOf (packetsAt four places))
+number-there place (p ∷ ps) (List·Memᴰ·head e) = List·Memᴰ·head (ap (λ (j : ℕ). getD four j noPacket .number) e)
+number-there place (p ∷ ps) (List·Memᴰ·tail i) = List·Memᴰ·tail (number-there place ps i)
+
+not-there : List·Memᴰ {A = ℕ} 2 (0 ∷ 1 ∷ 3 ∷ []) → ⊥
+not-there (List·Memᴰ·head e) = omega (arith, e)
+not-there (List·Memᴰ·tail (List·Memᴰ·head e)) = omega (arith, e)
+not-there (List·Memᴰ·tail (List·Memᴰ·tail (List·Memᴰ·head e))) = omega (arith, e)
+
+pub late-is-missing : LateIsMissing
+late-is-missing claim =
+    let x = claim (responder false) refl four (four-sent false) keeps both-kept (lossy false 42 3 41 3 (0 ∷ 1 ∷ 3 ∷ [])) loose-run in
+    ⊎-elim (λ i. not-there (subst (λ (l : List Packet). List·Memᴰ {A = ℕ} 2 (numbersOf l)) (sym (x .told)) (number-there 2 (x .places) i)))
+    (λ lost. lost .1 (List·Memᴰ·tail (List·Memᴰ·tail (List·Memᴰ·head refl)))) (x .missing 2 (lit< tt))

@@ -1,0 +1,148 @@
+-- STORY-MET, STORY-LOSS: worked runs over written-out bytes: one that meets all that is supposed, and links that lose a packet, loose and
+-- strict.
+-- Assumes nothing.
+use Prim.Native.Nat.{ℕ}
+use mathlib.Core.Path.{_≡_}
+use mathlib.Core.Bool.{Bool, true, false, cond}
+use mathlib.Core.List.{List, [], _∷_}
+use lib.ListN.{length, take, drop}
+use Rattle.links.specs.declared.State.{State}
+use Rattle.links.specs.Taken.{rememberedOf}
+use Rattle.one_story.specs.Sequence.{Packet, Gateway, freshOf, Sequence, bytesOn}
+use Rattle.one_story.specs.Run.{Link, Moment, linkOf, start, arrivedOn, takenThen, stepped, Run}
+use Rattle.one_story.specs.OneStory.{RunOf}
+use Rattle.one_story.specs.Losses.{packetsAt, Keeps, broughtOf, NotFarApart, NotFarFromTold}
+
+-- ---- what is sent
+
+-- STORY-MET: a responder with the id 9, whom 7 may call
+abbrev pub responder : Bool → Gateway
+responder strict = record { responder = true; strict = strict; callers = 0 ∷ 0 ∷ 0 ∷ 7 ∷ []; ours = 9 }
+
+-- STORY-MET: an AU1, data, data without user data, and a release; version and application type differ from packet to packet
+abbrev pub four : List Packet
+four =
+    record { version = 1; application = 26; number = 0; kind = 1; userData = 0 ∷ 0 ∷ 0 ∷ 7 ∷ 0 ∷ 0 ∷ 0 ∷ 9 ∷ 3 ∷ [] }
+    ∷ record { version = 1; application = 27; number = 1; kind = 3; userData = 65 ∷ 66 ∷ [] }
+    ∷ record { version = 2; application = 26; number = 2; kind = 3; userData = [] }
+    ∷ record { version = 1; application = 26; number = 3; kind = 4; userData = 5 ∷ [] }
+    ∷ []
+
+-- STORY-MET: their bytes on each link: packets of 19, 12, 10 and 11
+abbrev pub fourOn : Bool → List ℕ
+fourOn true =
+    0 ∷ 17 ∷ 1 ∷ 26 ∷ 0 ∷ 0 ∷ 1 ∷ 1 ∷ 162 ∷ 2 ∷ 0 ∷ 0 ∷ 0 ∷ 7 ∷ 0 ∷ 0 ∷ 0 ∷ 9 ∷ 3
+    ∷ 0 ∷ 10 ∷ 1 ∷ 27 ∷ 0 ∷ 1 ∷ 1 ∷ 3 ∷ 19 ∷ 195 ∷ 65 ∷ 66
+    ∷ 0 ∷ 8 ∷ 2 ∷ 26 ∷ 0 ∷ 2 ∷ 1 ∷ 3 ∷ 204 ∷ 37
+    ∷ 0 ∷ 9 ∷ 1 ∷ 26 ∷ 0 ∷ 3 ∷ 1 ∷ 4 ∷ 113 ∷ 238 ∷ 5 ∷ []
+fourOn false =
+    0 ∷ 17 ∷ 1 ∷ 26 ∷ 0 ∷ 0 ∷ 0 ∷ 1 ∷ 187 ∷ 218 ∷ 0 ∷ 0 ∷ 0 ∷ 7 ∷ 0 ∷ 0 ∷ 0 ∷ 9 ∷ 3
+    ∷ 0 ∷ 10 ∷ 1 ∷ 27 ∷ 0 ∷ 1 ∷ 0 ∷ 3 ∷ 10 ∷ 27 ∷ 65 ∷ 66
+    ∷ 0 ∷ 8 ∷ 2 ∷ 26 ∷ 0 ∷ 2 ∷ 0 ∷ 3 ∷ 213 ∷ 253
+    ∷ 0 ∷ 9 ∷ 1 ∷ 26 ∷ 0 ∷ 3 ∷ 0 ∷ 4 ∷ 104 ∷ 54 ∷ 5 ∷ []
+
+-- ---- moments
+
+-- STORY-MET: of these bytes so many have arrived, so many are used, in so many packets
+abbrev pub link : List ℕ → ℕ → ℕ → ℕ → Link
+link bytes arrived used packets = record { arrived = take arrived bytes; used = used; packets = packets }
+
+-- STORY-MET: the state once the packets at these places have been handed up
+abbrev pub stateAfter : Gateway → List ℕ → State
+stateAfter gateway [] = freshOf gateway
+stateAfter gateway (place ∷ []) = rememberedOf place (freshOf gateway)
+stateAfter gateway (place ∷ next ∷ places) = stateAfter gateway (next ∷ places)
+
+-- STORY-MET: a moment, by its links and the places of what has been handed up
+abbrev pub moment : Gateway → Link → Link → List ℕ → Moment
+moment gateway normal redundant places = record {
+  normal = normal;
+  redundant = redundant;
+  state = stateAfter gateway places;
+  handed = packetsAt four places;
+}
+
+-- STORY-MET: so many bytes more of these arrive on a link
+abbrev pub with : List ℕ → Bool → ℕ → Moment → Moment
+with bytes normal n m = arrivedOn normal (take n (drop (length (linkOf normal m .arrived)) bytes)) m
+
+-- STORY-MET: a step over all that has arrived answers this, and this is the moment after it
+abbrev pub Answers : Gateway → Moment → ℕ → Moment → Type 0
+Answers gateway m answer n = (takenThen gateway m .answer ≡ answer) × (stepped gateway m ≡ n)
+
+-- ---- two links mixed, of which one goes silent
+
+-- STORY-MET: the moments after each step
+abbrev pub mixed : ℕ → ℕ → ℕ → ℕ → ℕ → ℕ → List ℕ → Moment
+mixed arrived used packets arrived′ used′ packets′ places =
+    moment (responder true) (link (fourOn true) arrived used packets) (link (fourOn false) arrived′ used′ packets′) places
+
+-- STORY-MET: its steps, over pieces that end inside packets
+pub record MixedSteps : Type 0 where
+  -- 5 bytes on the redundant link: no whole packet
+  pub nothing-whole : Answers (responder true) (with (fourOn false) false 5 (start (responder true))) 301 (mixed 0 0 0 5 0 0 [])
+  -- 22 bytes on the normal link: the AU1, and 3 bytes of the next packet
+  pub opened : Answers (responder true) (with (fourOn true) true 22 (mixed 0 0 0 5 0 0 [])) 0 (mixed 22 19 1 5 0 0 (0 ∷ []))
+  -- 29 bytes more on the redundant link: the AU1 again, and the next packet
+  pub opened-again : Answers (responder true) (with (fourOn false) false 29 (mixed 22 19 1 5 0 0 (0 ∷ []))) 306 (mixed 22 19 1 34 19 1 (0 ∷ []))
+  pub overtakes : Answers (responder true) (mixed 22 19 1 34 19 1 (0 ∷ [])) 0 (mixed 22 19 1 34 31 2 (0 ∷ 1 ∷ []))
+  -- 12 bytes more on the normal link: that packet again; then it is silent, inside the third packet
+  pub catches-up : Answers (responder true) (with (fourOn true) true 12 (mixed 22 19 1 34 31 2 (0 ∷ 1 ∷ []))) 306 (mixed 34 31 2 34 31 2 (0 ∷ 1 ∷ []))
+  -- 7 bytes more on the redundant link, and the 11 that are left
+  pub third : Answers (responder true) (with (fourOn false) false 7 (mixed 34 31 2 34 31 2 (0 ∷ 1 ∷ []))) 0 (mixed 34 31 2 41 41 3 (0 ∷ 1 ∷ 2 ∷ []))
+  pub released :
+      Answers (responder true) (with (fourOn false) false 11 (mixed 34 31 2 41 41 3 (0 ∷ 1 ∷ 2 ∷ []))) 0 (mixed 34 31 2 52 52 4 (0 ∷ 1 ∷ 2 ∷ 3 ∷ []))
+  pub drained : Answers (responder true) (mixed 34 31 2 52 52 4 (0 ∷ 1 ∷ 2 ∷ 3 ∷ [])) 301 (mixed 34 31 2 52 52 4 (0 ∷ 1 ∷ 2 ∷ 3 ∷ []))
+
+-- STORY-MET: a run that meets all that is supposed
+pub record WorkedRun : Type 0 where
+  pub sequence : Sequence (responder true) four
+  pub bytes : (bytesOn true four ≡ fourOn true) × (bytesOn false four ≡ fourOn false)
+  pub steps : MixedSteps
+  pub run : RunOf (responder true) four 32768 (mixed 34 31 2 52 52 4 (0 ∷ 1 ∷ 2 ∷ 3 ∷ []))
+
+-- ---- the normal link loses a packet
+
+-- STORY-LOSS: the normal link loses the packet at place 2
+abbrev pub keeps : Bool → List ℕ
+keeps normal = cond normal (0 ∷ 1 ∷ 3 ∷ []) (0 ∷ 1 ∷ 2 ∷ 3 ∷ [])
+
+-- STORY-LOSS: what it brings: packets of 19, 12 and 11
+abbrev pub threeOnNormal : List ℕ
+threeOnNormal =
+    0 ∷ 17 ∷ 1 ∷ 26 ∷ 0 ∷ 0 ∷ 1 ∷ 1 ∷ 162 ∷ 2 ∷ 0 ∷ 0 ∷ 0 ∷ 7 ∷ 0 ∷ 0 ∷ 0 ∷ 9 ∷ 3
+    ∷ 0 ∷ 10 ∷ 1 ∷ 27 ∷ 0 ∷ 1 ∷ 1 ∷ 3 ∷ 19 ∷ 195 ∷ 65 ∷ 66
+    ∷ 0 ∷ 9 ∷ 1 ∷ 26 ∷ 0 ∷ 3 ∷ 1 ∷ 4 ∷ 113 ∷ 238 ∷ 5 ∷ []
+
+-- STORY-LOSS: all has arrived on both links; so many bytes and packets are used
+abbrev pub lossy : Bool → ℕ → ℕ → ℕ → ℕ → List ℕ → Moment
+lossy strict used packets used′ packets′ places =
+    moment (responder strict) (link threeOnNormal 42 used packets) (link (fourOn false) 52 used′ packets′) places
+
+-- STORY-LOSS: the loose setting skips the packet, and drops it when the redundant link, which is late, brings it
+pub record LooseSteps : Type 0 where
+  pub first : Answers (responder false) (lossy false 0 0 0 0 []) 0 (lossy false 19 1 0 0 (0 ∷ []))
+  pub second : Answers (responder false) (lossy false 19 1 0 0 (0 ∷ [])) 0 (lossy false 31 2 0 0 (0 ∷ 1 ∷ []))
+  pub skips : Answers (responder false) (lossy false 31 2 0 0 (0 ∷ 1 ∷ [])) 0 (lossy false 42 3 0 0 (0 ∷ 1 ∷ 3 ∷ []))
+  pub first-again : Answers (responder false) (lossy false 42 3 0 0 (0 ∷ 1 ∷ 3 ∷ [])) 306 (lossy false 42 3 19 1 (0 ∷ 1 ∷ 3 ∷ []))
+  pub second-again : Answers (responder false) (lossy false 42 3 19 1 (0 ∷ 1 ∷ 3 ∷ [])) 306 (lossy false 42 3 31 2 (0 ∷ 1 ∷ 3 ∷ []))
+  pub late : Answers (responder false) (lossy false 42 3 31 2 (0 ∷ 1 ∷ 3 ∷ [])) 306 (lossy false 42 3 41 3 (0 ∷ 1 ∷ 3 ∷ []))
+
+-- STORY-LOSS: the strict setting waits for it
+pub record StrictSteps : Type 0 where
+  pub first : Answers (responder true) (lossy true 0 0 0 0 []) 0 (lossy true 19 1 0 0 (0 ∷ []))
+  pub second : Answers (responder true) (lossy true 19 1 0 0 (0 ∷ [])) 0 (lossy true 31 2 0 0 (0 ∷ 1 ∷ []))
+  pub waits : Answers (responder true) (lossy true 31 2 0 0 (0 ∷ 1 ∷ [])) 307 (lossy true 42 3 0 0 (0 ∷ 1 ∷ []))
+  pub first-again : Answers (responder true) (lossy true 42 3 0 0 (0 ∷ 1 ∷ [])) 306 (lossy true 42 3 19 1 (0 ∷ 1 ∷ []))
+  pub second-again : Answers (responder true) (lossy true 42 3 19 1 (0 ∷ 1 ∷ [])) 306 (lossy true 42 3 31 2 (0 ∷ 1 ∷ []))
+  pub comes : Answers (responder true) (lossy true 42 3 31 2 (0 ∷ 1 ∷ [])) 0 (lossy true 42 3 41 3 (0 ∷ 1 ∷ 2 ∷ []))
+  pub last : Answers (responder true) (lossy true 42 3 41 3 (0 ∷ 1 ∷ 2 ∷ [])) 0 (lossy true 42 3 52 4 (0 ∷ 1 ∷ 2 ∷ 3 ∷ []))
+
+-- STORY-LOSS: the runs of the two settings over the same links
+pub record WorkedLoss : Type 0 where
+  pub kept : (normal : Bool) → Keeps four (keeps normal)
+  pub bytes : bytesOn true (broughtOf four keeps true) ≡ threeOnNormal
+  pub loose-steps : LooseSteps
+  pub loose-run : Run (responder false) (broughtOf four keeps) (NotFarApart keeps) (lossy false 42 3 41 3 (0 ∷ 1 ∷ 3 ∷ []))
+  pub strict-steps : StrictSteps
+  pub strict-run : Run (responder true) (broughtOf four keeps) (NotFarFromTold keeps) (lossy true 42 3 52 4 (0 ∷ 1 ∷ 2 ∷ 3 ∷ []))
