@@ -57,6 +57,10 @@ pub loose-never-far : (d : ℕ) → tooFar false d ≡ false
 unfolding tooFar
 loose-never-far d = refl
 
+-- an answer that drops a packet: past those of either class, and not 308
+abbrev pub Drop : ℕ → Type 0
+Drop answer = (304 < answer) × (answer ≡ 308 → ⊥)
+
 module _ (gateway : Gateway) (p : Packet) (normal : Bool) (s : List ℕ) (at : ℕ) (r : Stands normal p s at) where
   abbrev rows : ℕ → Taken
   rows done = rowsOf true normal s at (gateway .callers) (gateway .ours) (stateAt gateway done)
@@ -79,7 +83,7 @@ module _ (gateway : Gateway) (p : Packet) (normal : Bool) (s : List ℕ) (at : �
       (right-length normal s at (r .stands)) (r .stands .right) (r .stands .flagged))
 
   -- so a packet there is used: what holds of every way to drop it, and of handing it up, holds of the rows
-  pub rows-take : (done : ℕ) (P : Taken → Type 0) → ((answer : ℕ) → 304 < answer → P (dropped answer normal (packetHeaderAt s at) (stateAt gateway done)))
+  pub rows-take : (done : ℕ) (P : Taken → Type 0) → ((answer : ℕ) → Drop answer → P (dropped answer normal (packetHeaderAt s at) (stateAt gateway done)))
       → P (handedUp normal at (packetHeaderAt s at) (stateAt gateway done)) → P (rows done)
   unfolding classDRows
   rows-take done P drops hands =
@@ -87,11 +91,11 @@ module _ (gateway : Gateway) (p : Packet) (normal : Bool) (s : List ℕ) (at : �
       let header = packetHeaderAt s at in
       let d = distanceOf (header .number) (state .last) in
       subst P (sym (to-class done))
-      (by-row P (not (inClassD (header .kind))) (λ e. drops 305 (omega arith)) (λ e.
-      by-row P (state .first && notOpening (state .responder) header (userDataAt s at)) (λ e. drops 309 (omega arith)) (λ e.
-      by-row P (state .first && state .responder && notAllowed (gateway .callers) (gateway .ours) (userDataAt s at)) (λ e. drops 310 (omega arith)) (λ e.
-      by-row P (not (state .first) && notLater (header .kind) d) (λ e. drops 306 (omega arith)) (λ e.
-      by-row P (not (state .first) && tooFar (state .strict) d) (λ e. drops 307 (omega arith)) (λ e. hands))))))
+      (by-row P (not (inClassD (header .kind))) (λ e. drops 305 (omega arith, λ z. omega arith)) (λ e.
+      by-row P (state .first && notOpening (state .responder) header (userDataAt s at)) (λ e. drops 309 (omega arith, λ z. omega arith)) (λ e.
+      by-row P (state .first && state .responder && notAllowed (gateway .callers) (gateway .ours) (userDataAt s at)) (λ e. drops 310 (omega arith, λ z. omega arith)) (λ e.
+      by-row P (not (state .first) && notLater (header .kind) d) (λ e. drops 306 (omega arith, λ z. omega arith)) (λ e.
+      by-row P (not (state .first) && tooFar (state .strict) d) (λ e. drops 307 (omega arith, λ z. omega arith)) (λ e. hands))))))
 
   in-class : inClassD (p .kind) ≡ true → inClassD (packetHeaderAt s at .kind) ≡ true
   in-class c = ap inClassD (r .same-kind) ∙ c

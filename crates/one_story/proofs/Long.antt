@@ -20,7 +20,7 @@ use Rattle.links.specs.Table.{judgeable, held, rowsOf}
 use Rattle.links.proofs.Bools.{both-true}
 use Rattle.link_promises.specs.Promises.{ofLink, looksAt}
 use Rattle.one_story.specs.Sequence.{Packet, Gateway, SentFrom, Sequence, packetOn, bytesOn}
-use Rattle.one_story.specs.Run.{Link, Moment, linkOf, nothingYet, start, arrivedOn, Lends, Drained, packetsOf, usedUp, after, stepped, Run, Always}
+use Rattle.one_story.specs.Run.{Link, Moment, linkOf, nothingYet, start, arrivedOn, Lends, Drained, packetsOf, usedUp, after, takenThen, stepped, Run, Always}
 use Rattle.one_story.specs.OneStory.{NotFarBehind, RunOf, BothUp, larger, mostLag, Supposed}
 use Rattle.one_story.specs.Arrivals.{InStep}
 use Rattle.one_story.specs.Met.{ToldInTurn, ToldAlone, CanBeTold, initiator, dataFrom, longSequence, numbersOf, LongMayBeSent, GoesPastTheWrap}
@@ -28,7 +28,7 @@ use Rattle.one_story.proofs.Pieces.{bytes-append, Next, next-of, next-b
 use Rattle.one_story.proofs.Judged.{rows-take}
 use Rattle.one_story.proofs.Links.{Brought, not-all, stands-there, arrived-there, holds-next}
 use Rattle.one_story.proofs.Runs.{by-look}
-use Rattle.one_story.proofs.Story.{Stand, stand-of, stand-up}
+use Rattle.one_story.proofs.Story.{Stand, stand-of, stand-up, Went, went}
 
 -- ---- one step over all that has arrived
 
@@ -43,10 +43,7 @@ pub record OneMore (link : Bool) (m n : Moment) : Type 0 where
   pub arrived : linkOf link n .arrived ≡ linkOf link m .arrived
   pub other : linkOf (not link) n ≡ linkOf (not link) m
 
-some-used : (t : Taken) (n : ℕ) → t .used ≡ packetSize n → packetsOf t ≡ 1
-some-used t n u = simp (ne-eqb (t .used) 0 (λ z. omega (arith, u, z)))
-
-named-one : (m : Moment) (normal redundant : List ℕ) (t : Taken) (link : Bool) → t .normal ≡ link → packetsOf t ≡ 1 → OneMore link m (after normal redundant t m)
+pub named-one : (m : Moment) (normal redundant : List ℕ) (t : Taken) (link : Bool) → t .normal ≡ link → packetsOf t ≡ 1 → OneMore link m (after normal redundant t m)
 named-one m normal redundant t true e one = record {
   packets = ap (λ (b : Bool). cond b (usedUp (m .normal) t) (m .normal) .packets) e ∙ omega (arith, one);
   arrived = ap (λ (b : Bool). cond b (usedUp (m .normal) t) (m .normal) .arrived) e;
@@ -76,42 +73,25 @@ module _ (gateway : Gateway) (sent : List Packet) (q : Sequence gateway sent) wh
   pub used-one : (m : Moment) → Stand gateway sent m → (link : Bool) → judgeable (linkOf link m .arrived) (linkOf link m .used) ≡ true
       → (link ≡ false → Drained (m .normal)) → OneMore link m (stepped gateway m)
   used-one m h link e d =
-      by-look gateway m (stand-up gateway sent m h) (m .normal .arrived) (m .normal .used) (m .redundant .arrived) (m .redundant .used)
-      (λ (t : Taken). OneMore link m (after (m .normal .arrived) (m .redundant .arrived) t m)) (λ n r. absurd (false≢true (sym (none link n r) ∙ e)))
-      (λ looked past _ f. subst (λ (l : Bool). OneMore l m (after (m .normal .arrived) (m .redundant .arrived) (rows looked (m .state)) m)) (same looked link past f d e) (takes looked f))
+      by (takenThen gateway m) (went gateway sent q m h (m .normal .arrived) (m .normal .used) (m .redundant .arrived) (m .redundant .used) refl refl)
     where
       none : (l : Bool) → Drained (m .normal) → Drained (m .redundant) → judgeable (linkOf l m .arrived) (linkOf l m .used) ≡ false
       none true n r = n
       none false n r = r
 
-      s : Bool → List ℕ
-      s l = ofLink l (m .normal .arrived) (m .redundant .arrived)
-
-      at : Bool → ℕ
-      at l = ofLink l (m .normal .used) (m .redundant .used)
-
-      rows : Bool → State → Taken
-      rows l state = rowsOf true l (s l) (at l) (gateway .callers) (gateway .ours) state
-
-      same : (looked link : Bool) → (looked ≡ false → Drained (m .normal)) → judgeable (s looked) (at looked) ≡ true
+      same : (looked link : Bool) → (looked ≡ false → Drained (m .normal))
+          → judgeable (ofLink looked (m .normal .arrived) (m .redundant .arrived)) (ofLink looked (m .normal .used) (m .redundant .used)) ≡ true
           → (link ≡ false → Drained (m .normal)) → judgeable (linkOf link m .arrived) (linkOf link m .used) ≡ true → looked ≡ link
       same true true past f d e = refl
       same false false past f d e = refl
       same true false past f d e = absurd (false≢true (sym (d refl) ∙ f))
       same false true past f d e = absurd (false≢true (sym (past refl) ∙ e))
 
-      lent : (l : Bool) → Lends (linkOf l m) (s l) (at l)
-      lent true = refl
-      lent false = refl
-
-      takes : (l : Bool) → judgeable (s l) (at l) ≡ true → OneMore l m (after (m .normal .arrived) (m .redundant .arrived) (rows l (m .state)) m)
-      takes l f =
-          let n = next-of gateway sent q (linkOf l m .packets) (not-all gateway l sent (linkOf l m) (h .links l) (s l) (at l) (lent l) f) in
-          let r = stands-there gateway l sent (linkOf l m) (h .links l) (s l) (at l) (lent l) (linkOf l m .packets) n f in
-          let u : (rows l (m .state) .normal ≡ l) × (rows l (m .state) .used ≡ packetSize (packetHeaderAt (s l) (at l) .length)) =
-          subst (λ (x : State). (rows l x .normal ≡ l) × (rows l x .used ≡ packetSize (packetHeaderAt (s l) (at l) .length))) (sym (h .state))
-          (rows-take gateway (n .packet) l (s l) (at l) r (larger m) (λ (t : Taken). (t .normal ≡ l) × (t .used ≡ packetSize (packetHeaderAt (s l) (at l) .length))) (λ a u. (refl, refl)) (refl, refl)) in
-          named-one m (m .normal .arrived) (m .redundant .arrived) (rows l (m .state)) l (u .0) (some-used (rows l (m .state)) (packetHeaderAt (s l) (at l) .length) (u .1))
+      by : (t : Taken) → Went gateway sent q m h (m .normal .arrived) (m .normal .used) (m .redundant .arrived) (m .redundant .used) refl refl t
+          → OneMore link m (after (m .normal .arrived) (m .redundant .arrived) t m)
+      by t (Went.found-nothing n r _) = absurd (false≢true (sym (none link n r) ∙ e))
+      by t (Went.took looked past f name one _) =
+          named-one m (m .normal .arrived) (m .redundant .arrived) t link (name ∙ same looked link past f d e) one
 
   -- ---- packets arrive one by one
 

@@ -334,14 +334,18 @@ module _ (gateway : Gateway) (strict : gateway .strict ≡ true) (sent : List Pa
         by true b =
             let e = eqb-true here (length (m .handed)) b in
             let size : length (m .handed ++ (n .packet ∷ [])) ≡ suc here = length-append (m .handed) (n .packet ∷ []) ∙ omega (arith, e) in
-            inl
-            (subst (Hands gateway (n .packet) link s at r) e (next-one gateway (n .packet) link s at r here (n .sent)), size,
-            record { told = told-one e; none = λ z. let no : ⊥ = omega (arith, z, size) in absurd no })
+            inl (
+              subst (Hands gateway (n .packet) link s at r) e (next-one gateway (n .packet) link s at r here (n .sent)),
+              size,
+              record { told = told-one e; none = λ z. let no : ⊥ = omega (arith, z, size) in absurd no },
+            )
         by false b =
             let e = eqb-false here (length (m .handed)) b in
-            inr
-            (dropped-at (length (m .handed)) refl e, refl,
-            record { told = told .told; none = λ z. absurd (e (opens-here z ∙ sym z)) })
+            inr (
+              dropped-at (length (m .handed)) refl e,
+              refl,
+              record { told = told .told; none = λ z. absurd (e (opens-here z ∙ sym z)) },
+            )
 
   strict-teller : Teller gateway (broughtOf sent keeps) (NotFarFromTold keeps)
   strict-teller = record {

@@ -4,21 +4,25 @@ use Prim.Native.Nat.{ℕ, zero, suc, _+_, _≤_, _<_, max}
 use mathlib.Core.Path.{_≡_, refl, sym, ap, ap₂, _∙_, subst}
 use mathlib.Core.Bool.{Bool, true, false, not, false≢true}
 use mathlib.Core.List.{List, [], _∷_, _++_}
-use mathlib.Core.Logic.{inl, inr}
+use mathlib.Core.Logic.{_⊎_, inl, inr, ⊎-elim}
 use native.Mathlib.Omega.{arith}
+use borrow.Author.Tests.{ne-eqb}
 use lib.ListN.{take}
+use Rattle.packet.specs.Sizes.{packetSize}
+use Rattle.packet.specs.Packet.{packetHeaderAt}
 use Rattle.links.specs.declared.State.{State}
 use Rattle.links.specs.declared.Taken.{Taken}
+use Rattle.links.specs.Taken.{nothingChanges}
 use Rattle.links.specs.Table.{judgeable, rowsOf}
 use Rattle.link_promises.specs.Promises.{ofLink}
 use Rattle.one_story.specs.Sequence.{Packet, Gateway, SentFrom, Sequence}
-use Rattle.one_story.specs.Run.{Moment, linkOf, Lends, Drained, Run, Anything, Always}
+use Rattle.one_story.specs.Run.{Moment, linkOf, Lends, Drained, packetsOf, stepOf, Run, Anything, Always}
 use Rattle.one_story.specs.OneStory.{NotFarBehind, bothBring, RunOf, BothUp, larger, TwoLinksOneStory, LooseOneStory, mostLag, AnyLagOneStory}
 use Rattle.one_story.specs.OneStory.{NeitherLags, NeverLagsOneStory, Supposed}
 use Rattle.one_story.specs.OneStory.{HandedUpInOrder, NothingWithheld, DrainedAt301}
 use Rattle.one_story.proofs.Pieces.{Next, next-of}
 use Rattle.one_story.proofs.Standing.{Stands}
-use Rattle.one_story.proofs.Judged.{stateAt, Hands, Drops, rows-take, next-one, earlier-one}
+use Rattle.one_story.proofs.Judged.{stateAt, Drop, Hands, Drops, rows-take, next-one, earlier-one}
 use Rattle.one_story.proofs.Links.{Brought, lent-judgeable, not-all, stands-there, whole-used}
 use Rattle.one_story.proofs.Runs.{ltb-by, up-at, by-look, normalOf, redundantOf, Teller, run-holds}
 
@@ -146,6 +150,48 @@ pub handed-up-in-order : HandedUpInOrder
 handed-up-in-order gateway sent m x =
     subst (Sequence gateway) (sym (stand-of gateway sent m x .told)) (first-part gateway 0 (larger m) sent (x .sequence))
 
+-- ---- what a step does
+
+module _ (gateway : Gateway) (sent : List Packet) (q : Sequence gateway sent) (m : Moment) (h : Stand gateway sent m)
+    (normal : List ℕ) (normalAt : ℕ) (redundant : List ℕ) (redundantAt : ℕ) (ln : Lends (m .normal) normal normalAt) (lr : Lends (m .redundant) redundant redundantAt) where
+  abbrev s : Bool → List ℕ
+  s link = ofLink link normal redundant
+
+  abbrev at : Bool → ℕ
+  at link = ofLink link normalAt redundantAt
+
+  -- it finds nothing, or it uses a packet of a link
+  pub data Went (t : Taken) : Type 0 where
+    found-nothing : judgeable normal normalAt ≡ false → judgeable redundant redundantAt ≡ false → t ≡ nothingChanges 301 (m .state) → Went t
+    took : (link : Bool) → (link ≡ false → judgeable normal normalAt ≡ false) → judgeable (s link) (at link) ≡ true → t .normal ≡ link → packetsOf t ≡ 1
+        → (t .answer ≡ 0) ⊎ Drop (t .answer) → Went t
+
+  lent : (link : Bool) → Lends (linkOf link m) (s link) (at link)
+  lent true = ln
+  lent false = lr
+
+  abbrev rows : Bool → State → Taken
+  rows link state = rowsOf true link (s link) (at link) (gateway .callers) (gateway .ours) state
+
+  -- it names the link, uses as many bytes as the packet there has, and answers no 301
+  abbrev Takes : Bool → Taken → Type 0
+  Takes link t = (t .normal ≡ link) × (t .used ≡ packetSize (packetHeaderAt (s link) (at link) .length)) × ((t .answer ≡ 0) ⊎ Drop (t .answer))
+
+  takes : (link : Bool) → judgeable (s link) (at link) ≡ true → Takes link (rows link (m .state))
+  takes link e =
+      let n = next-of gateway sent q (linkOf link m .packets) (not-all gateway link sent (linkOf link m) (h .links link) (s link) (at link) (lent link) e) in
+      let r = stands-there gateway link sent (linkOf link m) (h .links link) (s link) (at link) (lent link) (linkOf link m .packets) n e in
+      subst (λ (x : State). Takes link (rows link x)) (sym (h .state))
+      (rows-take gateway (n .packet) link (s link) (at link) r (larger m) (Takes link) (λ answer u. (refl, refl, inr u)) (refl, refl, inl refl))
+
+  some-used : (t : Taken) (n : ℕ) → t .used ≡ packetSize n → packetsOf t ≡ 1
+  some-used t n u = simp (ne-eqb (t .used) 0 (λ z. omega (arith, u, z)))
+
+  pub went : Went (stepOf gateway normal normalAt redundant redundantAt m)
+  went =
+      by-look gateway m (stand-up gateway sent m h) normal normalAt redundant redundantAt Went (λ n r. Went.found-nothing n r refl)
+      (λ link past _ e. let x = takes link e in Went.took link past e (x .0) (some-used (rows link (m .state)) (packetHeaderAt (s link) (at link) .length) (x .1)) (x .2))
+
 -- ---- nothing is withheld
 
 pub nothing-withheld : NothingWithheld
@@ -156,35 +202,21 @@ nothing-withheld gateway sent m x normal redundant a b wa wb =
     (whole-used gateway true sent (m .normal) (h .links true) (m .normal .arrived) (m .normal .used) refl (λ k. k) (next-of gateway sent (x .sequence)) normal a wa)
     (whole-used gateway false sent (m .redundant) (h .links false) (m .redundant .arrived) (m .redundant .used) refl (λ k. k) (next-of gateway sent (x .sequence)) redundant b wb)
 
--- a step that takes a packet of a link does not answer 301
 pub drained-at-301 : DrainedAt301
-drained-at-301 gateway sent m x normal normalAt redundant redundantAt ln lr = (
-  by-look gateway m (stand-up gateway sent m h) normal normalAt redundant redundantAt (λ (t : Taken). t .answer ≡ 301 → Drained (m .normal) × Drained (m .redundant))
-      (λ n r _. (sym (lent-judgeable (m .normal) normal normalAt ln) ∙ n, sym (lent-judgeable (m .redundant) redundant redundantAt lr) ∙ r))
-      (λ link _ _ e z. absurd (other-answer link e z)),
-  λ n r.
-      by-look gateway m (stand-up gateway sent m h) normal normalAt redundant redundantAt (λ (t : Taken). t .answer ≡ 301) (λ _ _. refl)
-      (λ link _ _ e. absurd (false≢true (sym (none link n r) ∙ e))),
-)
+drained-at-301 gateway sent m x normal normalAt redundant redundantAt ln lr =
+    by (stepOf gateway normal normalAt redundant redundantAt m) (went gateway sent (x .sequence) m (stand-of gateway sent m x) normal normalAt redundant redundantAt ln lr)
   where
-    h : Stand gateway sent m
-    h = stand-of gateway sent m x
-
-    lent : (link : Bool) → Lends (linkOf link m) (ofLink link normal redundant) (ofLink link normalAt redundantAt)
-    lent true = ln
-    lent false = lr
-
     none : (link : Bool) → Drained (m .normal) → Drained (m .redundant) → judgeable (ofLink link normal redundant) (ofLink link normalAt redundantAt) ≡ false
     none true n r = lent-judgeable (m .normal) normal normalAt ln ∙ n
     none false n r = lent-judgeable (m .redundant) redundant redundantAt lr ∙ r
 
-    other-answer : (link : Bool) → judgeable (ofLink link normal redundant) (ofLink link normalAt redundantAt) ≡ true
-        → rowsOf true link (ofLink link normal redundant) (ofLink link normalAt redundantAt) (gateway .callers) (gateway .ours) (m .state) .answer ≡ 301 → ⊥
-    other-answer link e z =
-        let s = ofLink link normal redundant in
-        let at = ofLink link normalAt redundantAt in
-        let all = not-all gateway link sent (linkOf link m) (h .links link) s at (lent link) e in
-        let n = next-of gateway sent (x .sequence) (linkOf link m .packets) all in
-        let r = stands-there gateway link sent (linkOf link m) (h .links link) s at (lent link) (linkOf link m .packets) n e in
-        rows-take gateway (n .packet) link s at r (larger m) (λ (t : Taken). t .answer ≡ 301 → ⊥) (λ answer u z. omega arith) (λ z. omega arith)
-        (ap (λ (y : State). rowsOf true link s at (gateway .callers) (gateway .ours) y .answer) (sym (h .state)) ∙ z)
+    by : (t : Taken) → Went gateway sent (x .sequence) m (stand-of gateway sent m x) normal normalAt redundant redundantAt ln lr t
+        → (t .answer ≡ 301 → Drained (m .normal) × Drained (m .redundant)) × (Drained (m .normal) → Drained (m .redundant) → t .answer ≡ 301)
+    by t (Went.found-nothing n r e) = (
+      λ _. (sym (lent-judgeable (m .normal) normal normalAt ln) ∙ n, sym (lent-judgeable (m .redundant) redundant redundantAt lr) ∙ r),
+      λ _ _. ap (λ (y : Taken). y .answer) e,
+    )
+    by t (Went.took link past e _ _ answer) = (
+      λ z. let no : ⊥ = ⊎-elim (λ a. omega (arith, a, z)) (λ a. omega (arith, a .0, z)) answer in absurd no,
+      λ n r. absurd (false≢true (sym (none link n r) ∙ e)),
+    )

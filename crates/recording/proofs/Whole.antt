@@ -29,7 +29,7 @@ use Rattle.recording.proofs.Windows.{uses, lies-after}
 use Rattle.recording.proofs.Steps.{goes-on}
 
 -- what is lent of a window that follows a file is seen as the file is
-seen-as-file : (file : List ℕ) (place : ℕ) (buffer : List ℕ) (w : Window) (toRead : List ℕ) → Within w (length buffer) → Follows file place buffer w toRead
+pub seen-as-file : (file : List ℕ) (place : ℕ) (buffer : List ℕ) (w : Window) (toRead : List ℕ) → Within w (length buffer) → Follows file place buffer w toRead
     → lowOf mostPacket w ≡ false → seenFrom (take (w .to) buffer) (w .from) ≡ seenFrom file place
 seen-as-file file place buffer w toRead h f low =
     let lent = part (w .from) (w .to) buffer in
@@ -51,13 +51,13 @@ follows-used file place buffer w toRead used h f u =
     }
 
 -- the same where the link is the one that is named, or is not
-named-follows : (named : Bool) (file : List ℕ) (place : ℕ) (buffer : List ℕ) (w : Window) (toRead : List ℕ) (used : ℕ) → Within w (length buffer)
+pub named-follows : (named : Bool) (file : List ℕ) (place : ℕ) (buffer : List ℕ) (w : Window) (toRead : List ℕ) (used : ℕ) → Within w (length buffer)
     → Follows file place buffer w toRead → (named ≡ true → w .from + used ≤ w .to)
     → Follows file (cond named (place + used) place) buffer (cond named (usedOf used w) w) toRead
 named-follows true file place buffer w toRead used h f u = follows-used file place buffer w toRead used h f (u refl)
 named-follows false file place buffer w toRead used h f u = f
 
-other-follows : (named : Bool) (file : List ℕ) (place : ℕ) (buffer : List ℕ) (w : Window) (toRead : List ℕ) (used : ℕ) → Within w (length buffer)
+pub other-follows : (named : Bool) (file : List ℕ) (place : ℕ) (buffer : List ℕ) (w : Window) (toRead : List ℕ) (used : ℕ) → Within w (length buffer)
     → Follows file place buffer w toRead → (named ≡ false → w .from + used ≤ w .to)
     → Follows file (cond named place (place + used)) buffer (cond named w (usedOf used w)) toRead
 other-follows true file place buffer w toRead used h f u = f
@@ -95,7 +95,7 @@ reads-follow file place buffer w toRead _ _ _ f (refills after r refilled size r
     }
 
 -- and lies within its buffer
-reads-within : (buffer : List ℕ) (w : Window) (toRead after : List ℕ) (v : Window) (rest : List ℕ) → Within w (length buffer) → Reads buffer w toRead after v rest
+pub reads-within : (buffer : List ℕ) (w : Window) (toRead after : List ℕ) (v : Window) (rest : List ℕ) → Within w (length buffer) → Reads buffer w toRead after v rest
     → Within v (length after)
 reads-within buffer w toRead _ _ _ lies stays = lies
 reads-within buffer w toRead _ _ _ lies (refills after r refilled size rest more ended) = (omega (arith, refilled .front), omega (arith, refilled .within, size))
