@@ -1,6 +1,6 @@
 -- One step of a cutting of two recorded links, as a step of a run: the normal link is used to its last whole packet before the redundant one is begun.
 -- Assumes nothing.
-use Prim.Native.Nat.{ℕ, suc, _+_, _≤_, _<_}
+use Prim.Native.Nat.{ℕ, _+_, _≤_}
 use mathlib.Core.Path.{_≡_, refl, sym, ap, _∙_, subst}
 use mathlib.Core.Bool.{Bool, true, false, cond, false≢true}
 use mathlib.Core.List.{List, [], _∷_, _++_, append-nil, append-assoc}
@@ -19,7 +19,7 @@ use Rattle.recording.specs.Progress.{countedOf}
 use Rattle.one_story.specs.Sequence.{Packet, Gateway}
 use Rattle.one_story.specs.Run.{Link, Moment, Lends, usedUp, handedBy, after, stepOf}
 use Rattle.one_story.specs.OneStory.{NotFarBehind, mostLag}
-use Rattle.one_story.proofs.Story.{Stand, Went, went}
+use Rattle.one_story.proofs.Story.{Stand, Went}
 use Rattle.cut_story.specs.Names.{Name, linesOf, namedIn, namesOf}
 use Rattle.cut_story.specs.Windows.{Recorded}
 
@@ -86,10 +86,10 @@ module _ (gateway : Gateway) (sent : List Packet) (normalFile redundantFile : Li
   lag = mostLag (gateway .strict)
 
   -- nothing of the redundant link is used, or the normal link's file has no whole packet more
-  abbrev pub InTurn : Moment → Type 0
-  InTurn m = (m .redundant .packets ≡ 0) ⊎ (judgeable normalFile (m .normal .used) ≡ false)
+  abbrev pub NormalFirst : Moment → Type 0
+  NormalFirst m = (m .redundant .packets ≡ 0) ⊎ (judgeable normalFile (m .normal .used) ≡ false)
 
-  module _ (m : Moment) (h : Stand gateway sent m) (read : length (m .normal .arrived) ≤ length normalFile) (turn : InTurn m)
+  module _ (m : Moment) (h : Stand gateway sent m) (read : length (m .normal .arrived) ≤ length normalFile) (turn : NormalFirst m)
       (normal : List ℕ) (normalAt : ℕ) (redundant : List ℕ) (redundantAt : ℕ) (ln : Lends (m .normal) normal normalAt) (lr : Lends (m .redundant) redundant redundantAt)
       (seen : judgeable normal normalAt ≡ judgeable normalFile (m .normal .used)) where
     -- no more packets are used of the normal link than its file has whole
@@ -110,7 +110,7 @@ module _ (gateway : Gateway) (sent : List Packet) (normalFile redundantFile : Li
     redundant-kept : (t : Taken) → t .normal ≡ true → after normal redundant t m .redundant ≡ m .redundant
     redundant-kept t e = ap (λ (l : Bool). cond l (m .redundant) (usedUp (m .redundant) t)) e
 
-    pub turn-after : (t : Taken) → Went gateway sent (x .sequence) m h normal normalAt redundant redundantAt ln lr t → InTurn (after normal redundant t m)
+    pub turn-after : (t : Taken) → Went gateway sent (x .sequence) m h normal normalAt redundant redundantAt ln lr t → NormalFirst (after normal redundant t m)
     turn-after t (Went.found-nothing n r e) =
         inr
         (subst (λ (y : Taken). judgeable normalFile (after normal redundant y m .normal .used) ≡ false) (sym e)

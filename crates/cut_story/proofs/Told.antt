@@ -11,7 +11,6 @@ use lib.ListN.{length, take, drop}
 use lib.Seq.{length-take-le}
 use Rattle.rules.specs.Rows.{when_answer_else_}
 use Rattle.text.specs.Line.{endOf}
-use Rattle.links.specs.declared.State.{State}
 use Rattle.links.specs.declared.Taken.{Taken}
 use Rattle.links.specs.Taken.{nothingChanges}
 use Rattle.links.specs.Table.{judgeable}
@@ -20,7 +19,7 @@ use Rattle.recording.specs.Progress.{lastAnswer, countedOf}
 use Rattle.recording.specs.Cut.{Reach, reachedBy, takenFrom, cutFrom}
 use Rattle.recording.proofs.Steps.{goes-on}
 use Rattle.one_story.specs.Sequence.{Packet, Gateway}
-use Rattle.one_story.specs.Run.{Link, Moment, linkOf, start, arrivedOn, Lends, Drained, usedUp, handedBy, after, stepOf, Run}
+use Rattle.one_story.specs.Run.{Link, Moment, start, arrivedOn, Lends, Drained, usedUp, handedBy, after, stepOf, Run}
 use Rattle.one_story.specs.OneStory.{RunOf, Whole, Supposed}
 use Rattle.one_story.proofs.Judged.{Drop}
 use Rattle.one_story.proofs.Story.{Stand, stand-of, Went, went, nothing-withheld}
@@ -28,7 +27,7 @@ use Rattle.one_story.proofs.Long.{OneMore, named-one}
 use Rattle.cut_story.specs.Names.{Name, linesOf, namedIn, namesOf}
 use Rattle.cut_story.specs.Windows.{Recorded}
 use Rattle.cut_story.specs.Told.{CutTellsOneStory}
-use Rattle.cut_story.proofs.Steps.{names-append, named-append, names-handed, counts-handed, arrived-kept, used-then, lag, InTurn, near, turn-after}
+use Rattle.cut_story.proofs.Steps.{names-append, named-append, names-handed, counts-handed, arrived-kept, used-then, lag, NormalFirst, near, turn-after}
 
 -- answers that are the last, and that are not
 last-301 : lastAnswer 301 ≡ true
@@ -69,7 +68,7 @@ module _ (gateway : Gateway) (sent : List Packet) (normalFile redundantFile : Li
     run : RunOf gateway sent (lag gateway sent normalFile redundantFile a b x) m
     normal-arrived : m .normal .arrived ≡ normalFile
     redundant-arrived : m .redundant .arrived ≡ redundantFile
-    turn : InTurn gateway sent normalFile redundantFile a b x m
+    turn : NormalFirst gateway sent normalFile redundantFile a b x m
 
   supposed : (m : Moment) → Whole-read m → Supposed gateway sent m
   supposed m w = record { sequence = x .sequence; lag = lag gateway sent normalFile redundantFile a b x; enough = omega arith; run = w .run }

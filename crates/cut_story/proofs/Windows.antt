@@ -6,9 +6,9 @@ use mathlib.Core.Bool.{Bool, true, false, cond, false≢true}
 use mathlib.Core.List.{List, [], _∷_, _++_, append-nil, append-assoc}
 use mathlib.Core.Logic.{inl}
 use native.Mathlib.Omega.{arith}
-use lib.ListN.{length, take, drop, length-append, length-drop}
+use lib.ListN.{length, take, drop, length-append}
 use lib.Seq.{take-at, drop-append-le}
-use Rattle.window.specs.Window.{Within, unread, lowOf, usedOf, wasRead}
+use Rattle.window.specs.Window.{unread, lowOf, usedOf, wasRead}
 use Rattle.window.specs.declared.Window.{Window}
 use Rattle.window.proofs.Unread.{part}
 use Rattle.links.specs.declared.State.{State}
@@ -25,12 +25,12 @@ use Rattle.recording.specs.declared.Progress.{Progress}
 use Rattle.recording.proofs.Windows.{uses, lies-after}
 use Rattle.recording.proofs.Whole.{seen-as-file, named-follows, other-follows, reads-follow, reads-within}
 use Rattle.one_story.specs.Sequence.{Packet, Gateway, freshOf, bytesOn}
-use Rattle.one_story.specs.Run.{Link, Moment, start, arrivedOn, Lends, usedUp, handedBy, after, stepOf, Run}
+use Rattle.one_story.specs.Run.{Moment, start, arrivedOn, Lends, handedBy, after, stepOf, Run}
 use Rattle.one_story.specs.OneStory.{RunOf}
 use Rattle.one_story.proofs.Story.{Stand, stand-of, went}
 use Rattle.cut_story.specs.Names.{Name, linesOf, namedIn, namesOf}
 use Rattle.cut_story.specs.Windows.{ReadOf, WindowLends, Piece, ReadsArrive, FirstPart, Recorded, CuttingIsARun}
-use Rattle.cut_story.proofs.Steps.{names-append, named-append, lines-append, names-handed, counts-handed, arrived-kept, used-then, lag, InTurn, near, turn-after}
+use Rattle.cut_story.proofs.Steps.{names-append, named-append, lines-append, names-handed, counts-handed, arrived-kept, used-then, lag, NormalFirst, near, turn-after}
 
 -- two lists with the same rest behind them
 same-front : (a b rest : List ℕ) → a ++ rest ≡ b ++ rest → a ≡ b
@@ -50,7 +50,7 @@ reads-arrive buffer w toRead _ _ _ (refills after r refilled size rest more ende
 
 module _ (gateway : Gateway) (sent : List Packet) (normalFile redundantFile : List ℕ) (a b : ℕ) (x : Recorded gateway sent normalFile redundantFile a b) where
   -- the moment at which a cutting stands, with what the windows follow
-  record Stands (normal redundant : List ℕ) (p : Progress) (normalToRead redundantToRead printed : List ℕ) : Type 0 where
+  record AtMoment (normal redundant : List ℕ) (p : Progress) (normalToRead redundantToRead printed : List ℕ) : Type 0 where
     now : Moment
     run : RunOf gateway sent (lag gateway sent normalFile redundantFile a b x) now
     state : now .state ≡ p .state
@@ -63,7 +63,7 @@ module _ (gateway : Gateway) (sent : List Packet) (normalFile redundantFile : Li
     lies : Lies p (length normal) (length redundant)
     normal-follows : Follows normalFile (now .normal .used) normal (p .normal) normalToRead
     redundant-follows : Follows redundantFile (now .redundant .used) redundant (p .redundant) redundantToRead
-    turn : InTurn gateway sent normalFile redundantFile a b x now
+    turn : NormalFirst gateway sent normalFile redundantFile a b x now
 
   -- a piece of a file arrives
   joins : (link : Bool) (file arrived toRead rest : List ℕ) (f : FirstPart link sent file) (p : Piece toRead rest) → arrived ++ toRead ≡ file
@@ -72,11 +72,11 @@ module _ (gateway : Gateway) (sent : List Packet) (normalFile redundantFile : Li
       let read : (arrived ++ p .piece) ++ rest ≡ file = append-assoc arrived (p .piece) rest ∙ ap (λ (l : List ℕ). arrived ++ l) (sym (p .next)) ∙ e in
       (read, sym (append-assoc (arrived ++ p .piece) rest (f .rest)) ∙ ap (λ (l : List ℕ). l ++ f .rest) read ∙ f .part)
 
-  module _ (normal redundant : List ℕ) (p : Progress) (normalToRead redundantToRead printed : List ℕ) (was : Stands normal redundant p normalToRead redundantToRead printed) where
+  module _ (normal redundant : List ℕ) (p : Progress) (normalToRead redundantToRead printed : List ℕ) (was : AtMoment normal redundant p normalToRead redundantToRead printed) where
     -- windows are refilled, or not
     stands-read : (normalAfter redundantAfter : List ℕ) (n r : Window) (normalRest redundantRest : List ℕ)
         → Reads normal (p .normal) normalToRead normalAfter n normalRest → Reads redundant (p .redundant) redundantToRead redundantAfter r redundantRest
-        → Stands normalAfter redundantAfter (windowed n r p) normalRest redundantRest printed
+        → AtMoment normalAfter redundantAfter (windowed n r p) normalRest redundantRest printed
     stands-read normalAfter redundantAfter n r normalRest redundantRest onNormal onRedundant =
         let one = reads-arrive normal (p .normal) normalToRead normalAfter n normalRest onNormal in
         let two = reads-arrive redundant (p .redundant) redundantToRead redundantAfter r redundantRest onRedundant in
@@ -141,7 +141,7 @@ module _ (gateway : Gateway) (sent : List Packet) (normalFile redundantFile : Li
       used : UsesNoMore t p
       used = uses normal redundant (gateway .callers) (gateway .ours) p (was .lies) same
 
-      stands-then : Stands normal redundant (steppedOf t p) normalToRead redundantToRead (printed ++ lineOf t)
+      stands-then : AtMoment normal redundant (steppedOf t p) normalToRead redundantToRead (printed ++ lineOf t)
       unfolding steppedOf
       stands-then = record {
         now = after s r t m;
@@ -175,13 +175,13 @@ module _ (gateway : Gateway) (sent : List Packet) (normalFile redundantFile : Li
             (went gateway sent (x .sequence) m h s (p .normal .from) r (p .redundant .from) ln lr);
       }
 
-      stands-stepped : Stands normal redundant (steppedOf (takenAt normal redundant (gateway .callers) (gateway .ours) p) p) normalToRead redundantToRead
+      stands-stepped : AtMoment normal redundant (steppedOf (takenAt normal redundant (gateway .callers) (gateway .ours) p) p) normalToRead redundantToRead
           (printed ++ lineOf (takenAt normal redundant (gateway .callers) (gateway .ours) p))
-      stands-stepped = subst (λ (y : Taken). Stands normal redundant (steppedOf y p) normalToRead redundantToRead (printed ++ lineOf y)) same stands-then
+      stands-stepped = subst (λ (y : Taken). AtMoment normal redundant (steppedOf y p) normalToRead redundantToRead (printed ++ lineOf y)) same stands-then
 
   stands : {normal redundant : List ℕ} {p : Progress} {normalToRead redundantToRead printed : List ℕ}
       → Cuts (gateway .callers) (gateway .ours) (freshOf gateway) normalFile redundantFile normal redundant p normalToRead redundantToRead printed
-      → Stands normal redundant p normalToRead redundantToRead printed
+      → AtMoment normal redundant p normalToRead redundantToRead printed
   stands (starts normal redundant) = record {
     now = start gateway;
     run = Run.begun;

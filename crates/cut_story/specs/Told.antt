@@ -1,4 +1,4 @@
--- STORY-CUT: what `cut` prints for two recorded links of a sequence: the lines of the steps, of which those with answer 0 name the sequence.
+-- STORY-CUT: what `cut` prints for two recorded links of a sequence: lines of steps, of which those with answer 0 name it.
 -- Assumes nothing.
 use Prim.Native.Nat.{ℕ, max}
 use mathlib.Core.Path.{_≡_}

@@ -33,7 +33,9 @@ pub record Piece (toRead rest : List ℕ) : Type 0 where
 
 -- STORY-WINDOW: a refill is the arrival of a piece, and no refill that of an empty one
 abbrev pub ReadsArrive : Type 0
-ReadsArrive = (buffer : List ℕ) (w : Window) (toRead after : List ℕ) (v : Window) (rest : List ℕ) → Reads buffer w toRead after v rest → Piece toRead rest
+ReadsArrive =
+    (buffer : List ℕ) (w : Window) (toRead after : List ℕ) (v : Window) (rest : List ℕ)
+    → Reads buffer w toRead after v rest → Piece toRead rest
 
 -- STORY-WINDOW: a file is a first part of what a link brings
 pub record FirstPart (normal : Bool) (sent : List Packet) (file : List ℕ) : Type 0 where
@@ -71,5 +73,6 @@ CuttingIsARun =
     (gateway : Gateway) (sent : List Packet) (normalFile redundantFile : List ℕ) (a b : ℕ)
     → Recorded gateway sent normalFile redundantFile a b
     → (normal redundant : List ℕ) (p : Progress) (normalToRead redundantToRead printed : List ℕ)
-    → Cuts (gateway .callers) (gateway .ours) (freshOf gateway) normalFile redundantFile normal redundant p normalToRead redundantToRead printed
+    → Cuts (gateway .callers) (gateway .ours) (freshOf gateway) normalFile redundantFile
+    normal redundant p normalToRead redundantToRead printed
     → CutMoment gateway sent p normalFile redundantFile normalToRead redundantToRead printed

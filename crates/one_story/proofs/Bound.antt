@@ -4,7 +4,7 @@
 use Prim.Native.Nat.{ℕ, zero, suc, _+_, _-_, _≤_, _<_}
 use mathlib.Core.Path.{_≡_, refl, sym, ap, _∙_, subst}
 use mathlib.Core.Bool.{Bool, true, false, false≢true}
-use mathlib.Core.List.{List, [], _∷_, _++_}
+use mathlib.Core.List.{List, [], _∷_}
 use native.Mathlib.Omega.{arith}
 use lib.ListN.{length, take, length-append, length-take}
 use Rattle.number.specs.Number.{numbers, behindFrom}
@@ -20,7 +20,7 @@ use Rattle.one_story.specs.Met.{initiator, longSequence}
 use Rattle.one_story.proofs.Pieces.{bytes-grow, Next, next-of, next-bytes}
 use Rattle.one_story.proofs.Standing.{Stands, packet-length}
 use Rattle.one_story.proofs.Judged.{stateAt, Hands, behind-taken}
-use Rattle.one_story.proofs.Links.{not-all, stands-there, holds-next}
+use Rattle.one_story.proofs.Links.{stands-there, holds-next}
 use Rattle.one_story.proofs.Runs.{ltb-by, hands-up, by-look}
 use Rattle.one_story.proofs.Story.{Stand, stand-up, weaken}
 use Rattle.one_story.proofs.Long.{OneMore, looked-is, used-one, HasBrought, Comes, comes, drained-at, stand, Used, comes-and-is-used, long-may-be-sent}

@@ -16,13 +16,13 @@ use Rattle.links.proofs.Judged.{seen}
 use Rattle.link_promises.proofs.Seen.{same-judgeable}
 use Rattle.one_story.specs.Sequence.{Packet, Gateway, packetOn, bytesOn}
 use Rattle.one_story.specs.Run.{Link, nothingYet, longer, Lends, packetsOf, usedUp}
-use Rattle.one_story.specs.OneStory.{Read, Whole}
+use Rattle.one_story.specs.OneStory.{FrontUsed, Whole}
 use Rattle.one_story.proofs.Pieces.{bytes-past, bytes-grow, Next, Placed, next-bytes}
 use Rattle.one_story.proofs.Standing.{Stands, packet-length, enough, whole-judgeable, stands}
 
 -- what holds of a link at every moment
 pub record Brought (normal : Bool) (brought : List Packet) (link : Link) : Type 0 where
-  pub read : Read normal brought link
+  pub read : FrontUsed normal brought link
   pub rest : List ℕ
   pub prefix : link .arrived ++ rest ≡ bytesOn normal brought
 

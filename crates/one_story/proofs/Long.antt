@@ -1,33 +1,28 @@
 -- Runs of any length, put together packet by packet.
 -- Assumes nothing.
-use Prim.Native.Nat.{ℕ, zero, suc, _+_, _-_, _%_, _≤_, _<_}
+use Prim.Native.Nat.{ℕ, zero, suc, _+_, _-_, _≤_, _<_}
 use mathlib.Core.Path.{_≡_, refl, sym, ap, ap₂, _∙_, subst}
 use mathlib.Core.Bool.{Bool, true, false, not, cond, _&&_, false≢true}
 use mathlib.Core.List.{List, [], _∷_, _++_}
 use mathlib.Core.Logic.{inl}
 use native.Mathlib.Omega.{arith}
-use borrow.Author.Tests.{ne-eqb, not-true}
+use borrow.Author.Tests.{not-true}
 use lib.Dec.{lit<, lit≤}
-use lib.ListN.{length, take, drop, length-append, take-append-drop}
+use lib.ListN.{length, take, drop, take-append-drop}
 use lib.Seq.{take-length}
 use Rattle.field.specs.Field.{fieldOf}
-use Rattle.packet.specs.Sizes.{packetSize}
-use Rattle.packet.specs.Packet.{packetHeaderAt}
 use Rattle.packet_types.specs.Types.{leastOf, openingFault}
-use Rattle.links.specs.declared.State.{State}
 use Rattle.links.specs.declared.Taken.{Taken}
-use Rattle.links.specs.Table.{judgeable, held, rowsOf}
+use Rattle.links.specs.Table.{judgeable, held}
 use Rattle.links.proofs.Bools.{both-true}
 use Rattle.link_promises.specs.Promises.{ofLink, looksAt}
 use Rattle.one_story.specs.Sequence.{Packet, Gateway, SentFrom, Sequence, packetOn, bytesOn}
-use Rattle.one_story.specs.Run.{Link, Moment, linkOf, nothingYet, start, arrivedOn, Lends, Drained, packetsOf, usedUp, after, takenThen, stepped, Run, Always}
-use Rattle.one_story.specs.OneStory.{NotFarBehind, RunOf, BothUp, larger, mostLag, Supposed}
+use Rattle.one_story.specs.Run.{Link, Moment, linkOf, nothingYet, start, arrivedOn, Drained, packetsOf, usedUp, after, takenThen, stepped, Run, Always}
+use Rattle.one_story.specs.OneStory.{NotFarBehind, RunOf, BothUp, larger, mostLag}
 use Rattle.one_story.specs.Arrivals.{InStep}
 use Rattle.one_story.specs.Met.{ToldInTurn, ToldAlone, CanBeTold, initiator, dataFrom, longSequence, numbersOf, LongMayBeSent, GoesPastTheWrap}
 use Rattle.one_story.proofs.Pieces.{bytes-append, Next, next-of, next-bytes}
-use Rattle.one_story.proofs.Judged.{rows-take}
-use Rattle.one_story.proofs.Links.{Brought, not-all, stands-there, arrived-there, holds-next}
-use Rattle.one_story.proofs.Runs.{by-look}
+use Rattle.one_story.proofs.Links.{not-all, arrived-there, holds-next}
 use Rattle.one_story.proofs.Story.{Stand, stand-of, stand-up, Went, went}
 
 -- ---- one step over all that has arrived

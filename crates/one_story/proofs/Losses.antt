@@ -9,17 +9,16 @@ use native.Mathlib.Omega.{arith}
 use borrow.Author.Tests.{eqb-true, eqb-false}
 use lib.Dec.{eqb}
 use lib.ListN.{length, getD, take, drop, length-append}
-use Rattle.number.specs.Number.{numbers, behindFrom}
 use Rattle.links.specs.Table.{tooFar}
 use Rattle.link_promises.proofs.Outcome.{entry}
 use Rattle.one_story.specs.Sequence.{Packet, Gateway, Sent, SentFrom, Sequence}
 use Rattle.one_story.specs.Run.{Moment, linkOf, Run}
 use Rattle.one_story.specs.OneStory.{mostLag}
-use Rattle.one_story.specs.Losses.{noPacket, packetsAt, InOrder, Keeps, Loses, broughtOf, reachedBy, reachedOn, furthest, nextOn, NotFarApart}
+use Rattle.one_story.specs.Losses.{noPacket, packetsAt, InOrder, Keeps, Loses, broughtOf, passedBy, passedOn, furthest, passedNext, NotFarApart}
 use Rattle.one_story.specs.Losses.{SkippingStory, OneLoses, BothLose, OtherNotLate, LooseMissesOnlyLost, LooseMissesBothLost, NotFarFromTold, StrictNeverSkips}
-use Rattle.one_story.proofs.Pieces.{Next, Placed, before, next-of}
+use Rattle.one_story.proofs.Pieces.{Next, Placed, before}
 use Rattle.one_story.proofs.Standing.{Stands}
-use Rattle.one_story.proofs.Judged.{Hands, Drops, loose-never-far, two-far, ahead, behind, beyond, next-one, earlier-one}
+use Rattle.one_story.proofs.Judged.{Hands, Drops, loose-never-far, ahead, behind, beyond, next-one, earlier-one}
 use Rattle.one_story.proofs.Runs.{ltb-by, normalOf, redundantOf, Teller, holds-up, run-holds}
 
 -- ---- places in order
@@ -30,24 +29,24 @@ within from end place (p ∷ ps) o (List·Memᴰ·head e) = (omega (arith, o .0,
 within from end place (p ∷ ps) o (List·Memᴰ·tail i) = let r = within (suc p) end place ps (o .2) i in (omega (arith, r .0, o .0), r .1)
 
 -- the packets of a link before one reach no further than that one
-reached-before : (from end k : ℕ) (kept : List ℕ) → InOrder from end kept → k < length kept → reachedBy kept k ≤ getD kept k 0
-reached-before from end k [] o l = let none : ⊥ = omega arith in absurd none
-reached-before from end zero (p ∷ ps) o l = omega arith
-reached-before from end (suc zero) (p ∷ ps) o l = first ps (o .2) (omega arith)
+passed-before : (from end k : ℕ) (kept : List ℕ) → InOrder from end kept → k < length kept → passedBy kept k ≤ getD kept k 0
+passed-before from end k [] o l = let none : ⊥ = omega arith in absurd none
+passed-before from end zero (p ∷ ps) o l = omega arith
+passed-before from end (suc zero) (p ∷ ps) o l = first ps (o .2) (omega arith)
   where
     first : (ps : List ℕ) → InOrder (suc p) end ps → 0 < length ps → suc p ≤ getD ps 0 0
     first [] o l = let none : ⊥ = omega arith in absurd none
     first (q ∷ qs) o l = o .0
-reached-before from end (suc (suc k)) (p ∷ ps) o l = reached-before (suc p) end (suc k) ps (o .2) (omega arith)
+passed-before from end (suc (suc k)) (p ∷ ps) o l = passed-before (suc p) end (suc k) ps (o .2) (omega arith)
 
 -- and a place between is none that the link brings
-between : (from end k place : ℕ) (kept : List ℕ) → InOrder from end kept → k < length kept → reachedBy kept k ≤ place → place < getD kept k 0 → List·Memᴰ place kept → ⊥
+between : (from end k place : ℕ) (kept : List ℕ) → InOrder from end kept → k < length kept → passedBy kept k ≤ place → place < getD kept k 0 → List·Memᴰ place kept → ⊥
 between from end zero place (p ∷ ps) o l h g (List·Memᴰ·head e) = omega (arith, e)
 between from end zero place (p ∷ ps) o l h g (List·Memᴰ·tail i) = omega (arith, within (suc p) end place ps (o .2) i .0)
 between from end (suc zero) place (p ∷ ps) o l h g (List·Memᴰ·head e) = omega (arith, e)
 between from end (suc zero) place (p ∷ ps) o l h g (List·Memᴰ·tail i) = between (suc p) end zero place ps (o .2) (omega arith) (omega arith) g i
 between from end (suc (suc k)) place (p ∷ ps) o l h g (List·Memᴰ·head e) =
-    let r = reached-before from end (suc (suc k)) (p ∷ ps) o l in
+    let r = passed-before from end (suc (suc k)) (p ∷ ps) o l in
     omega (arith, e, h, later (suc p) end k ps (o .2) (omega arith))
   where
     later : (from end k : ℕ) (ps : List ℕ) → InOrder from end ps → k < length ps → from ≤ getD ps k 0
@@ -123,9 +122,9 @@ module _ (gateway : Gateway) (loose : gateway .strict ≡ false) (sent : List Pa
     (keep : (link : Bool) → Keeps sent (keeps link)) (Near : Moment → Bool → Type 0) (Missing : ℕ → Type 0)
     (apart : (m : Moment) (link : Bool) → Near m link → NotFarApart keeps m link)
     (passes : (m : Moment) (link : Bool) → Near m link → linkOf link m .packets < length (keeps link) → (place : ℕ) → furthest keeps m ≤ place
-    → suc place < nextOn keeps m link → Missing place) where
+    → suc place < passedNext keeps m link → Missing place) where
   abbrev doneBy : ℕ → ℕ → ℕ
-  doneBy a b = max (reachedBy (keeps true) a) (reachedBy (keeps false) b)
+  doneBy a b = max (passedBy (keeps true) a) (passedBy (keeps false) b)
 
   -- what has been told, by how far the links are used
   record Told (done : ℕ) (handed : List Packet) : Type 0 where
@@ -139,10 +138,10 @@ module _ (gateway : Gateway) (loose : gateway .strict ≡ false) (sent : List Pa
       (n : Next gateway (getD (keeps link) (linkOf link m .packets) 0) (broughtOf sent keeps link) (linkOf link m .packets)) (s : List ℕ) (at : ℕ)
       (r : Stands link (n .packet) s at) where
     abbrev own : ℕ
-    own = reachedOn keeps m link
+    own = passedOn keeps m link
 
     abbrev other : ℕ
-    other = reachedOn keeps m (not link)
+    other = passedOn keeps m (not link)
 
     abbrev place : ℕ
     place = getD (keeps link) (linkOf link m .packets) 0
@@ -154,12 +153,12 @@ module _ (gateway : Gateway) (loose : gateway .strict ≡ false) (sent : List Pa
     in-kept = omega (arith, l, packets-length sent (keeps link))
 
     own-before : own ≤ place
-    own-before = reached-before 0 (length sent) (linkOf link m .packets) (keeps link) (keep link .in-order) in-kept
+    own-before = passed-before 0 (length sent) (linkOf link m .packets) (keeps link) (keep link .in-order) in-kept
 
     furthest-is : furthest keeps m ≡ max own other
     furthest-is = by link
       where
-        by : (x : Bool) → furthest keeps m ≡ max (reachedOn keeps m x) (reachedOn keeps m (not x))
+        by : (x : Bool) → furthest keeps m ≡ max (passedOn keeps m x) (passedOn keeps m (not x))
         by true = refl
         by false = omega arith
 
@@ -168,7 +167,7 @@ module _ (gateway : Gateway) (loose : gateway .strict ≡ false) (sent : List Pa
       where
         by : (x : Bool)
             → doneBy (normalOf x (m .normal .packets)) (redundantOf x (m .redundant .packets))
-            ≡ max (suc (getD (keeps x) (linkOf x m .packets) 0)) (reachedOn keeps m (not x))
+            ≡ max (suc (getD (keeps x) (linkOf x m .packets) 0)) (passedOn keeps m (not x))
         by true = refl
         by false = omega arith
 
@@ -176,7 +175,7 @@ module _ (gateway : Gateway) (loose : gateway .strict ≡ false) (sent : List Pa
     opens : furthest keeps m ≡ 0 → place ≡ 0
     opens e = first (linkOf link m .packets) (omega (arith, furthest-is))
       where
-        first : (k : ℕ) → reachedBy (keeps link) k ≡ 0 → getD (keeps link) k 0 ≡ 0
+        first : (k : ℕ) → passedBy (keeps link) k ≡ 0 → getD (keeps link) k 0 ≡ 0
         first zero e = keep link .opening
         first (suc k) e = let none : ⊥ = omega arith in absurd none
 
@@ -245,11 +244,11 @@ module _ (gateway : Gateway) (loose : gateway .strict ≡ false) (sent : List Pa
 
 -- the link that passes over a place has lost it
 passed-lost : (sent : List Packet) (keeps : Bool → List ℕ) → ((link : Bool) → Keeps sent (keeps link)) → (m : Moment) (link : Bool)
-    → linkOf link m .packets < length (keeps link) → (place : ℕ) → furthest keeps m ≤ place → suc place < nextOn keeps m link → Loses (keeps link) place
+    → linkOf link m .packets < length (keeps link) → (place : ℕ) → furthest keeps m ≤ place → suc place < passedNext keeps m link → Loses (keeps link) place
 passed-lost sent keeps keep m link l place h g =
     between 0 (length sent) (linkOf link m .packets) place (keeps link) (keep link .in-order) l (omega (arith, own-least link)) (omega arith)
   where
-    own-least : (x : Bool) → reachedOn keeps m x ≤ furthest keeps m
+    own-least : (x : Bool) → passedOn keeps m x ≤ furthest keeps m
     own-least true = omega arith
     own-least false = omega arith
 
@@ -271,7 +270,7 @@ loose-misses-both-lost gateway loose sent q keeps keep m x =
     both true place one two = (one, two)
     both false place one two = (two, one)
 
-    not-used : (m : Moment) (link : Bool) (place : ℕ) → furthest keeps m ≤ place → place < reachedOn keeps m (not link) → ⊥
+    not-used : (m : Moment) (link : Bool) (place : ℕ) → furthest keeps m ≤ place → place < passedOn keeps m (not link) → ⊥
     not-used m true place h g = omega arith
     not-used m false place h g = omega arith
 

@@ -10,7 +10,6 @@ use native.Mathlib.Omega.{arith}
 use borrow.Author.Tests.{ltb-true, ltb-false, ne-eqb}
 use lib.Dec.{ltb}
 use lib.ListN.{length}
-use Rattle.number.specs.Number.{numbers}
 use Rattle.packet.specs.Sizes.{packetHeaderSize, packetSize}
 use Rattle.packet.specs.Packet.{packetHeaderAt}
 use Rattle.packet.specs.declared.Header.{Header}
@@ -22,7 +21,7 @@ use Rattle.links.proofs.Step.{normal-up, at-normal, at-redundant, at-301}
 use Rattle.link_promises.specs.Promises.{ofLink, looksAt}
 use Rattle.link_promises.proofs.Promises.{data-of-packet}
 use Rattle.one_story.specs.Sequence.{Packet, Gateway, bytesOn}
-use Rattle.one_story.specs.Run.{Link, Moment, linkOf, start, arrivedOn, Lends, packetsOf, usedUp, handedBy, after, stepOf, Run}
+use Rattle.one_story.specs.Run.{Moment, linkOf, start, arrivedOn, Lends, packetsOf, usedUp, handedBy, after, stepOf, Run}
 use Rattle.one_story.specs.OneStory.{BothUp}
 use Rattle.one_story.proofs.Pieces.{Next, Placed}
 use Rattle.one_story.proofs.Standing.{Stands}

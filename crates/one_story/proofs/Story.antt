@@ -73,7 +73,7 @@ module _ (gateway : Gateway) (sent : List Packet) (q : Sequence gateway sent) (l
           told ∙ ap (λ (k : ℕ). take k sent) (sym then),
         )
 
-  -- the sequence, up to the larger number of packets used
+  -- what the link that is ahead has used is told
   pub teller : Teller gateway (bothBring sent) (NotFarBehind lag)
   teller = record {
     placeOf = λ link k. k;

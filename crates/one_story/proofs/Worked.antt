@@ -2,7 +2,7 @@
 -- Assumes nothing.
 use Prim.Native.Nat.{ℕ, _+_, _≤_, _<_}
 use mathlib.Core.Path.{_≡_, refl, sym, ap, _∙_, subst}
-use mathlib.Core.Bool.{Bool, true, false, not}
+use mathlib.Core.Bool.{Bool, true, false}
 use mathlib.Core.List.{List, [], _∷_, _++_, List·Memᴰ, List·Memᴰ·head, List·Memᴰ·tail}
 use mathlib.Core.Logic.{_⊎_, inl, inr, ⊎-elim}
 use native.Mathlib.Omega.{arith}
@@ -16,9 +16,9 @@ use Rattle.packet_types.specs.Types.{callerOf, calledOf, classesOf, leastOf, in
 use Rattle.links.specs.Callers.{listed, notAllowed}
 use Rattle.links.specs.Table.{lengthFault, judgeable, bothDown, notOpening, notLater, tooFar, linkRows, classDRows, takenOf, userDataOf}
 use Rattle.one_story.specs.Sequence.{Packet, Gateway, Sequence, packetOn, bytesOn}
-use Rattle.one_story.specs.Run.{Moment, linkOf, start, arrivedOn, handedBy, takenThen, stepped, Run}
+use Rattle.one_story.specs.Run.{Moment, linkOf, start, handedBy, Run}
 use Rattle.one_story.specs.OneStory.{NotFarBehind, RunOf}
-use Rattle.one_story.specs.Losses.{noPacket, packetsAt, Keeps, broughtOf, furthest, nextOn, NotFarApart, NotFarFromTold, LateIsMissing}
+use Rattle.one_story.specs.Losses.{noPacket, packetsAt, Keeps, broughtOf, furthest, passedNext, NotFarApart, NotFarFromTold, LateIsMissing}
 use Rattle.one_story.specs.Met.{numbersOf}
 use Rattle.one_story.specs.Worked.{responder, four, fourOn, with, Answers, mixed, MixedSteps, WorkedRun, keeps, threeOnNormal, lossy, LooseSteps, StrictSteps, WorkedLoss}
 
@@ -147,18 +147,18 @@ arrived-on-both strict =
     (more threeOnNormal true 42 (start (responder strict)) [] three-right refl Run.begun)
 
 -- few places are passed
-few-apart : (m : Moment) → furthest keeps m ≤ 4 → nextOn keeps m true ≤ 4 → nextOn keeps m false ≤ 4 → (normal : Bool) → NotFarApart keeps m normal
+few-apart : (m : Moment) → furthest keeps m ≤ 4 → passedNext keeps m true ≤ 4 → passedNext keeps m false ≤ 4 → (normal : Bool) → NotFarApart keeps m normal
 few-apart m a b c true = (omega arith, omega arith)
 few-apart m a b c false = (omega arith, omega arith)
 
-few-told : (m : Moment) → length (m .handed) ≤ 4 → nextOn keeps m true ≤ 4 → nextOn keeps m false ≤ 4 → (normal : Bool) → NotFarFromTold keeps m normal
+few-told : (m : Moment) → length (m .handed) ≤ 4 → passedNext keeps m true ≤ 4 → passedNext keeps m false ≤ 4 → (normal : Bool) → NotFarFromTold keeps m normal
 few-told m a b c true = (omega arith, omega arith)
 few-told m a b c false = (omega arith, omega arith)
 
 abbrev Loose : Moment → Type 0
 Loose m = Run (responder false) (broughtOf four keeps) (NotFarApart keeps) m
 
-loose-step : (m : Moment) → furthest keeps m ≤ 4 → nextOn keeps m true ≤ 4 → nextOn keeps m false ≤ 4 → (answer : ℕ) (n : Moment) → Answers (responder false) m answer n
+loose-step : (m : Moment) → furthest keeps m ≤ 4 → passedNext keeps m true ≤ 4 → passedNext keeps m false ≤ 4 → (answer : ℕ) (n : Moment) → Answers (responder false) m answer n
     → Loose m → Loose n
 loose-step m a b c answer n s x = goes m (few-apart m a b c) answer n s x
 
@@ -174,7 +174,7 @@ loose-run =
 abbrev Strict : Moment → Type 0
 Strict m = Run (responder true) (broughtOf four keeps) (NotFarFromTold keeps) m
 
-strict-step : (m : Moment) → length (m .handed) ≤ 4 → nextOn keeps m true ≤ 4 → nextOn keeps m false ≤ 4 → (answer : ℕ) (n : Moment) → Answers (responder true) m answer n
+strict-step : (m : Moment) → length (m .handed) ≤ 4 → passedNext keeps m true ≤ 4 → passedNext keeps m false ≤ 4 → (answer : ℕ) (n : Moment) → Answers (responder true) m answer n
     → Strict m → Strict n
 strict-step m a b c answer n s x = goes m (few-told m a b c) answer n s x
 

@@ -1,5 +1,4 @@
--- STORY-LAG: the lag is one of packets used. Said of packets that have arrived it is not enough: a link whose bytes lie unread falls behind
--- too.
+-- STORY-LAG: the lag is one of packets used: said of packets that have arrived it is not enough, since bytes may lie unread.
 -- Assumes nothing.
 use Prim.Native.Nat.{ℕ, suc, _≤_}
 use mathlib.Core.Path.{_≡_}

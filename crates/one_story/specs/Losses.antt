@@ -43,31 +43,31 @@ broughtOf sent keeps link = packetsAt sent (keeps link)
 -- ---- how far the links are
 
 -- STORY-LOSS: how far in the sequence the first packets of a link reach: up to the place of the last of them, and with it
-abbrev pub reachedBy : List ℕ → ℕ → ℕ
-reachedBy kept zero = 0
-reachedBy kept (suc k) = suc (getD kept k 0)
+abbrev pub passedBy : List ℕ → ℕ → ℕ
+passedBy kept zero = 0
+passedBy kept (suc k) = suc (getD kept k 0)
 
 -- STORY-LOSS: how far a link is used
-abbrev pub reachedOn : (Bool → List ℕ) → Moment → Bool → ℕ
-reachedOn keeps m link = reachedBy (keeps link) (linkOf link m .packets)
+abbrev pub passedOn : (Bool → List ℕ) → Moment → Bool → ℕ
+passedOn keeps m link = passedBy (keeps link) (linkOf link m .packets)
 
 -- STORY-LOSS: how far the link that is ahead is used
 abbrev pub furthest : (Bool → List ℕ) → Moment → ℕ
-furthest keeps m = max (reachedOn keeps m true) (reachedOn keeps m false)
+furthest keeps m = max (passedOn keeps m true) (passedOn keeps m false)
 
 -- STORY-LOSS: how far a link is used once the packet that it holds is taken
-abbrev pub nextOn : (Bool → List ℕ) → Moment → Bool → ℕ
-nextOn keeps m link = reachedBy (keeps link) (suc (linkOf link m .packets))
+abbrev pub passedNext : (Bool → List ℕ) → Moment → Bool → ℕ
+passedNext keeps m link = passedBy (keeps link) (suc (linkOf link m .packets))
 
 -- STORY-LAG, STORY-LOSS: the packet taken lies fewer than 32,768 places behind the furthest, and fewer than that before it
 abbrev pub NotFarApart : (Bool → List ℕ) → Moment → Bool → Type 0
 NotFarApart keeps m link =
-    (furthest keeps m < nextOn keeps m link + 32768) × (nextOn keeps m link < furthest keeps m + 32768)
+    (furthest keeps m < passedNext keeps m link + 32768) × (passedNext keeps m link < furthest keeps m + 32768)
 
 -- ---- the claim of the loose setting
 
--- STORY-LOSS: what has been handed up are packets of the sequence in order, none of them twice, up to the furthest that is used; and one that
--- is missing among them is missing for a reason
+-- STORY-LOSS: what has been handed up are packets of the sequence in order, none of them twice, up to the furthest that is used; and one
+-- that is missing among them is missing for a reason
 pub record SkippingStory (sent : List Packet) (keeps : Bool → List ℕ) (Missing : ℕ → Type 0) (m : Moment) : Type 0 where
   pub places : List ℕ
   pub told : m .handed ≡ packetsAt sent places
@@ -94,7 +94,7 @@ BothLose keeps place = Loses (keeps true) place × Loses (keeps false) place
 -- STORY-LOSS: the other link is not late: whatever it brings from before the packet taken has been used
 abbrev pub OtherNotLate : (Bool → List ℕ) → Moment → Bool → Type 0
 OtherNotLate keeps m link =
-    (place : ℕ) → List·Memᴰ place (keeps (not link)) → suc place < nextOn keeps m link → place < reachedOn keeps m (not link)
+    (place : ℕ) → List·Memᴰ place (keeps (not link)) → suc place < passedNext keeps m link → place < passedOn keeps m (not link)
 
 -- STORY-LOSS: only packets that a link has lost are missing
 abbrev pub LooseMissesOnlyLost : Type 0
@@ -114,7 +114,7 @@ LateIsMissing = LooseStory NotFarApart BothLose → ⊥
 -- STORY-LOSS: the packet taken lies within as many places of the next one to hand up as there are numbers
 abbrev pub NotFarFromTold : (Bool → List ℕ) → Moment → Bool → Type 0
 NotFarFromTold keeps m link =
-    (length (m .handed) < nextOn keeps m link + 65535) × (nextOn keeps m link < length (m .handed) + 65536)
+    (length (m .handed) < passedNext keeps m link + 65535) × (passedNext keeps m link < length (m .handed) + 65536)
 
 -- STORY-LOSS: whatever the links lose, the strict setting hands up a first part of the sequence: it never skips
 abbrev pub StrictNeverSkips : Type 0

@@ -1,9 +1,8 @@
--- STORY-MET: what is supposed can be met, by sequences of any length, past the wrap too, with the links in turn and with one link silent from
--- the start.
+-- STORY-MET: what is supposed can be met, by sequences of any length, with the links in turn and with one silent from the start.
 -- Assumes nothing.
 use Prim.Native.Nat.{ℕ, zero, suc, _%_}
 use mathlib.Core.Path.{_≡_}
-use mathlib.Core.Bool.{Bool, true, false, not}
+use mathlib.Core.Bool.{Bool, false, not}
 use mathlib.Core.List.{List, [], _∷_}
 use lib.ListN.{length, drop}
 use Rattle.number.specs.Number.{numbers}

@@ -1,4 +1,4 @@
--- STORY-ONE: what has been handed up, at every moment, is the sent sequence up to the larger number of packets used from either link.
+-- STORY-ONE: the claim: what went up is always the front of what was sent, and as much of it as the link that is ahead has used.
 -- Assumes nothing.
 use Prim.Native.Nat.{ℕ, suc, _+_, _≤_, _<_, max}
 use mathlib.Core.Path.{_≡_}
@@ -27,7 +27,7 @@ RunOf gateway sent lag m = Run gateway (bothBring sent) (NotFarBehind lag) m
 -- ---- the claim
 
 -- STORY-ONE: the packets used from a link are those at the front of the sequence, whole: their bytes are the bytes used, and have arrived
-pub record Read (normal : Bool) (brought : List Packet) (link : Link) : Type 0 where
+pub record FrontUsed (normal : Bool) (brought : List Packet) (link : Link) : Type 0 where
   pub first-part : link .packets ≤ length brought
   pub whole : link .used ≡ length (bytesOn normal (take (link .packets) brought))
   pub there : link .used ≤ length (link .arrived)
@@ -37,16 +37,16 @@ pub record BothUp (state : State) : Type 0 where
   pub normal-up : state .«normal_up» ≡ true
   pub redundant-up : state .«redundant_up» ≡ true
 
--- STORY-ONE: the larger number of packets used from either link
+-- STORY-ONE: how many packets are used of the link that is ahead: the larger number of the two
 abbrev pub larger : Moment → ℕ
 larger m = max (m .normal .packets) (m .redundant .packets)
 
+-- STORY-ONE, STORY-UP: one story: so many packets of the sequence and no others are told, in their order, each once; of each link the front
+-- was used; and both links are up
 pub record Story (sent : List Packet) (m : Moment) : Type 0 where
-  -- STORY-ONE
   pub told : m .handed ≡ take (larger m) sent
-  pub read-normal : Read true sent (m .normal)
-  pub read-redundant : Read false sent (m .redundant)
-  -- STORY-UP
+  pub read-normal : FrontUsed true sent (m .normal)
+  pub read-redundant : FrontUsed false sent (m .redundant)
   pub up : BothUp (m .state)
 
 -- STORY-ONE: by the setting, strict or loose, and the lag that no link reaches

@@ -1,5 +1,4 @@
--- STORY-MET, STORY-LOSS: worked runs over written-out bytes: one that meets all that is supposed, and links that lose a packet, loose and
--- strict.
+-- STORY-MET, STORY-LOSS: worked runs over written-out bytes, with two links mixed, and with a link that loses a packet.
 -- Assumes nothing.
 use Prim.Native.Nat.{ℕ}
 use mathlib.Core.Path.{_≡_}
@@ -48,17 +47,17 @@ abbrev pub link : List ℕ → ℕ → ℕ → ℕ → Link
 link bytes arrived used packets = record { arrived = take arrived bytes; used = used; packets = packets }
 
 -- STORY-MET: the state once the packets at these places have been handed up
-abbrev pub stateAfter : Gateway → List ℕ → State
-stateAfter gateway [] = freshOf gateway
-stateAfter gateway (place ∷ []) = rememberedOf place (freshOf gateway)
-stateAfter gateway (place ∷ next ∷ places) = stateAfter gateway (next ∷ places)
+abbrev pub stateBehind : Gateway → List ℕ → State
+stateBehind gateway [] = freshOf gateway
+stateBehind gateway (place ∷ []) = rememberedOf place (freshOf gateway)
+stateBehind gateway (place ∷ next ∷ places) = stateBehind gateway (next ∷ places)
 
 -- STORY-MET: a moment, by its links and the places of what has been handed up
 abbrev pub moment : Gateway → Link → Link → List ℕ → Moment
 moment gateway normal redundant places = record {
   normal = normal;
   redundant = redundant;
-  state = stateAfter gateway places;
+  state = stateBehind gateway places;
   handed = packetsAt four places;
 }
 
@@ -72,27 +71,34 @@ Answers gateway m answer n = (takenThen gateway m .answer ≡ answer) × (steppe
 
 -- ---- two links mixed, of which one goes silent
 
--- STORY-MET: the moments after each step
+-- STORY-MET: of each link so many bytes have arrived and are used, in so many packets
 abbrev pub mixed : ℕ → ℕ → ℕ → ℕ → ℕ → ℕ → List ℕ → Moment
 mixed arrived used packets arrived′ used′ packets′ places =
     moment (responder true) (link (fourOn true) arrived used packets) (link (fourOn false) arrived′ used′ packets′) places
 
+-- STORY-MET: so many bytes more arrive on the normal link, or on the other
+abbrev pub brings : Bool → ℕ → Moment → Moment
+brings normal n m = with (fourOn normal) normal n m
+
+-- STORY-MET: a step of the strict setting
+abbrev pub Mixes : Moment → ℕ → Moment → Type 0
+Mixes m answer n = Answers (responder true) m answer n
+
 -- STORY-MET: its steps, over pieces that end inside packets
 pub record MixedSteps : Type 0 where
   -- 5 bytes on the redundant link: no whole packet
-  pub nothing-whole : Answers (responder true) (with (fourOn false) false 5 (start (responder true))) 301 (mixed 0 0 0 5 0 0 [])
+  pub nothing-whole : Mixes (brings false 5 (start (responder true))) 301 (mixed 0 0 0 5 0 0 [])
   -- 22 bytes on the normal link: the AU1, and 3 bytes of the next packet
-  pub opened : Answers (responder true) (with (fourOn true) true 22 (mixed 0 0 0 5 0 0 [])) 0 (mixed 22 19 1 5 0 0 (0 ∷ []))
+  pub opened : Mixes (brings true 22 (mixed 0 0 0 5 0 0 [])) 0 (mixed 22 19 1 5 0 0 (0 ∷ []))
   -- 29 bytes more on the redundant link: the AU1 again, and the next packet
-  pub opened-again : Answers (responder true) (with (fourOn false) false 29 (mixed 22 19 1 5 0 0 (0 ∷ []))) 306 (mixed 22 19 1 34 19 1 (0 ∷ []))
-  pub overtakes : Answers (responder true) (mixed 22 19 1 34 19 1 (0 ∷ [])) 0 (mixed 22 19 1 34 31 2 (0 ∷ 1 ∷ []))
+  pub opened-again : Mixes (brings false 29 (mixed 22 19 1 5 0 0 (0 ∷ []))) 306 (mixed 22 19 1 34 19 1 (0 ∷ []))
+  pub overtakes : Mixes (mixed 22 19 1 34 19 1 (0 ∷ [])) 0 (mixed 22 19 1 34 31 2 (0 ∷ 1 ∷ []))
   -- 12 bytes more on the normal link: that packet again; then it is silent, inside the third packet
-  pub catches-up : Answers (responder true) (with (fourOn true) true 12 (mixed 22 19 1 34 31 2 (0 ∷ 1 ∷ []))) 306 (mixed 34 31 2 34 31 2 (0 ∷ 1 ∷ []))
+  pub catches-up : Mixes (brings true 12 (mixed 22 19 1 34 31 2 (0 ∷ 1 ∷ []))) 306 (mixed 34 31 2 34 31 2 (0 ∷ 1 ∷ []))
   -- 7 bytes more on the redundant link, and the 11 that are left
-  pub third : Answers (responder true) (with (fourOn false) false 7 (mixed 34 31 2 34 31 2 (0 ∷ 1 ∷ []))) 0 (mixed 34 31 2 41 41 3 (0 ∷ 1 ∷ 2 ∷ []))
-  pub released :
-      Answers (responder true) (with (fourOn false) false 11 (mixed 34 31 2 41 41 3 (0 ∷ 1 ∷ 2 ∷ []))) 0 (mixed 34 31 2 52 52 4 (0 ∷ 1 ∷ 2 ∷ 3 ∷ []))
-  pub drained : Answers (responder true) (mixed 34 31 2 52 52 4 (0 ∷ 1 ∷ 2 ∷ 3 ∷ [])) 301 (mixed 34 31 2 52 52 4 (0 ∷ 1 ∷ 2 ∷ 3 ∷ []))
+  pub third : Mixes (brings false 7 (mixed 34 31 2 34 31 2 (0 ∷ 1 ∷ []))) 0 (mixed 34 31 2 41 41 3 (0 ∷ 1 ∷ 2 ∷ []))
+  pub released : Mixes (brings false 11 (mixed 34 31 2 41 41 3 (0 ∷ 1 ∷ 2 ∷ []))) 0 (mixed 34 31 2 52 52 4 (0 ∷ 1 ∷ 2 ∷ 3 ∷ []))
+  pub drained : Mixes (mixed 34 31 2 52 52 4 (0 ∷ 1 ∷ 2 ∷ 3 ∷ [])) 301 (mixed 34 31 2 52 52 4 (0 ∷ 1 ∷ 2 ∷ 3 ∷ []))
 
 -- STORY-MET: a run that meets all that is supposed
 pub record WorkedRun : Type 0 where
@@ -114,7 +120,7 @@ threeOnNormal =
     ∷ 0 ∷ 10 ∷ 1 ∷ 27 ∷ 0 ∷ 1 ∷ 1 ∷ 3 ∷ 19 ∷ 195 ∷ 65 ∷ 66
     ∷ 0 ∷ 9 ∷ 1 ∷ 26 ∷ 0 ∷ 3 ∷ 1 ∷ 4 ∷ 113 ∷ 238 ∷ 5 ∷ []
 
--- STORY-LOSS: all has arrived on both links; so many bytes and packets are used
+-- STORY-LOSS: all has arrived on both links; so many bytes and packets are used of each
 abbrev pub lossy : Bool → ℕ → ℕ → ℕ → ℕ → List ℕ → Moment
 lossy strict used packets used′ packets′ places =
     moment (responder strict) (link threeOnNormal 42 used packets) (link (fourOn false) 52 used′ packets′) places
