@@ -44,9 +44,6 @@ goes-further n o =
     simp (ne-eqb n 301 (λ z. ⊎-elim (λ e. omega (arith, e, z)) (λ d. omega (arith, d .0, z)) o), ne-eqb n 308 (λ z. ⊎-elim (λ e. omega (arith, e, z)) (λ d. d .1 z) o))
 
 module _ (gateway : Gateway) (sent : List Packet) (normalFile redundantFile : List ℕ) (a b : ℕ) (x : Recorded gateway sent normalFile redundantFile a b) where
-  abbrev files : Reach → Taken
-  files y = takenFrom normalFile redundantFile (gateway .callers) (gateway .ours) y
-
   abbrev printed : Reach → List ℕ
   printed y = cutFrom normalFile redundantFile (gateway .callers) (gateway .ours) y
 
