@@ -1,3 +1,4 @@
 pub mod Steps
 pub mod Windows
 pub mod Told
+pub mod Worked

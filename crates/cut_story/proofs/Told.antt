@@ -16,12 +16,13 @@ use Rattle.links.specs.Taken.{nothingChanges}
 use Rattle.links.specs.Table.{judgeable}
 use Rattle.recording.specs.Printed.{heading, lineOf}
 use Rattle.recording.specs.Progress.{lastAnswer, countedOf}
-use Rattle.recording.specs.Cut.{Reach, reachedBy, takenFrom, cutFrom}
+use Rattle.recording.specs.Cut.{Reach, reachedBy, cutFrom}
 use Rattle.recording.proofs.Steps.{goes-on}
 use Rattle.one_story.specs.Sequence.{Packet, Gateway}
 use Rattle.one_story.specs.Run.{Link, Moment, start, arrivedOn, Lends, Drained, usedUp, handedBy, after, stepOf, Run}
 use Rattle.one_story.specs.OneStory.{RunOf, Whole, Supposed}
 use Rattle.one_story.proofs.Judged.{Drop}
+use Rattle.one_story.proofs.Links.{same-whole}
 use Rattle.one_story.proofs.Story.{Stand, stand-of, Went, went, nothing-withheld}
 use Rattle.one_story.proofs.Long.{OneMore, named-one}
 use Rattle.cut_story.specs.Names.{Name, linesOf, namedIn, namesOf}
@@ -148,9 +149,12 @@ module _ (gateway : Gateway) (sent : List Packet) (normalFile redundantFile : Li
 
         told : m .handed ≡ take (max a b) sent
         told =
-            nothing-withheld gateway sent m (supposed m w) drained-normal drained-redundant a b
-            (subst (λ (l : List ℕ). Whole true sent l a) (sym (w .normal-arrived)) (x .normal-whole))
-            (subst (λ (l : List ℕ). Whole false sent l b) (sym (w .redundant-arrived)) (x .redundant-whole))
+            let all = nothing-withheld gateway sent m (supposed m w) drained-normal drained-redundant in
+            all .2
+            ∙ ap₂ (λ (i j : ℕ). take (max i j) sent)
+            (same-whole true sent normalFile (m .normal .packets) a (subst (λ (l : List ℕ). Whole true sent l (m .normal .packets)) (w .normal-arrived) (all .0)) (x .normal-whole))
+            (same-whole false sent redundantFile (m .redundant .packets) b
+            (subst (λ (l : List ℕ). Whole false sent l (m .redundant .packets)) (w .redundant-arrived) (all .1)) (x .redundant-whole))
 
         size : length (m .handed) ≡ max a b
         size = ap length told ∙ length-take-le (max a b) sent (omega (arith, x .normal-whole .within, x .redundant-whole .within))

@@ -2,3 +2,4 @@
 pub mod Names
 pub mod Windows
 pub mod Told
+pub mod Worked

@@ -121,16 +121,24 @@ module _ (gateway : Gateway) (normal : Bool) (brought : List Packet) (link : Lin
         room arrived used left size more h l e p = omega arith
 
   -- where nothing is left to judge, the packets used are all that have arrived whole
-  pub whole-used : (placeOf : ℕ → ℕ) → Placed gateway brought placeOf → judgeable s at ≡ false → (n : ℕ) → Whole normal brought (link .arrived) n → link .packets ≡ n
-  whole-used placeOf placed e n w =
-      let up = all-used (ltb (link .packets) n) refl in
-      let down = w .no-more (link .packets) (b .read .first-part) (omega (arith, b .read .whole, b .read .there)) in
-      omega arith
+  pub whole-used : (placeOf : ℕ → ℕ) → Placed gateway brought placeOf → judgeable s at ≡ false → Whole normal brought (link .arrived) (link .packets)
+  whole-used placeOf placed e = record {
+    within = b .read .first-part;
+    all-there = omega (arith, b .read .whole, b .read .there);
+    no-more = λ k l there. by k l there (ltb (link .packets) k) refl;
+  }
     where
-      all-used : (t : Bool) → ltb (link .packets) n ≡ t → n ≤ link .packets
-      all-used false f = ltb-false (link .packets) n f
-      all-used true f =
-          let l = ltb-true (link .packets) n f in
-          let x = placed (link .packets) (omega (arith, w .within)) in
-          let grow = bytes-grow normal brought (suc (link .packets)) n l in
-          absurd (false≢true (sym e ∙ holds-next (placeOf (link .packets)) x (omega (arith, w .all-there))))
+      by : (k : ℕ) → k ≤ length brought → length (bytesOn normal (take k brought)) ≤ length (link .arrived) → (t : Bool) → ltb (link .packets) k ≡ t → k ≤ link .packets
+      by k l there false f = ltb-false (link .packets) k f
+      by k l there true f =
+          let less = ltb-true (link .packets) k f in
+          let x = placed (link .packets) (omega arith) in
+          let grow = bytes-grow normal brought (suc (link .packets)) k less in
+          absurd (false≢true (sym e ∙ holds-next (placeOf (link .packets)) x (omega arith)))
+
+-- there is one such number
+pub same-whole : (normal : Bool) (brought : List Packet) (bytes : List ℕ) (a b : ℕ) → Whole normal brought bytes a → Whole normal brought bytes b → a ≡ b
+same-whole normal brought bytes a b x y =
+    let up = y .no-more a (x .within) (x .all-there) in
+    let down = x .no-more b (y .within) (y .all-there) in
+    omega arith

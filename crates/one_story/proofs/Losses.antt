@@ -15,7 +15,7 @@ use Rattle.one_story.specs.Sequence.{Packet, Gateway, Sent, SentFrom, Se
 use Rattle.one_story.specs.Run.{Moment, linkOf, Run}
 use Rattle.one_story.specs.OneStory.{mostLag}
 use Rattle.one_story.specs.Losses.{noPacket, packetsAt, InOrder, Keeps, Loses, broughtOf, passedBy, passedOn, furthest, passedNext, NotFarApart}
-use Rattle.one_story.specs.Losses.{SkippingStory, OneLoses, BothLose, OtherNotLate, LooseMissesOnlyLost, LooseMissesBothLost, NotFarFromTold, StrictNeverSkips}
+use Rattle.one_story.specs.Losses.{SkippingStory, OneLoses, BothLose, NotFarNorLate, LooseMissesOnlyLost, LooseMissesBothLost, NotFarFromTold, StrictNeverSkips}
 use Rattle.one_story.proofs.Pieces.{Next, Placed, before}
 use Rattle.one_story.proofs.Standing.{Stands}
 use Rattle.one_story.proofs.Judged.{Hands, Drops, loose-never-far, ahead, behind, beyond, next-one, earlier-one}
@@ -263,8 +263,8 @@ loose-misses-only-lost gateway loose sent q keeps keep m x =
 
 pub loose-misses-both-lost : LooseMissesBothLost
 loose-misses-both-lost gateway loose sent q keeps keep m x =
-    skipping-story gateway loose sent q keeps keep (λ m link. NotFarApart keeps m link × OtherNotLate keeps m link) (BothLose keeps) (λ m link near. near .0)
-    (λ m link near l place h g. both link place (passed-lost sent keeps keep m link l place h g) (λ i. not-used m link place h (near .1 place i g))) m x
+    skipping-story gateway loose sent q keeps keep (NotFarNorLate keeps) (BothLose keeps) (λ m link near. near .0)
+    (λ m link near l place h g. both link place (passed-lost sent keeps keep m link l place h g) (λ i. not-used m link place h (near .1 (omega arith) place i g))) m x
   where
     both : (link : Bool) (place : ℕ) → Loses (keeps link) place → Loses (keeps (not link)) place → BothLose keeps place
     both true place one two = (one, two)

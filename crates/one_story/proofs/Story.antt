@@ -1,7 +1,7 @@
 -- Two links, one story, in either setting and for every lag that will do; and what follows from it.
 -- Assumes nothing.
 use Prim.Native.Nat.{ℕ, zero, suc, _+_, _≤_, _<_, max}
-use mathlib.Core.Path.{_≡_, refl, sym, ap, ap₂, _∙_, subst}
+use mathlib.Core.Path.{_≡_, refl, sym, ap, _∙_, subst}
 use mathlib.Core.Bool.{Bool, true, false, not, false≢true}
 use mathlib.Core.List.{List, [], _∷_, _++_}
 use mathlib.Core.Logic.{_⊎_, inl, inr, ⊎-elim}
@@ -103,7 +103,7 @@ stand-up gateway sent m h = up-at gateway (larger m) (m .state) (h .state)
 pub any-lag-one-story : AnyLagOneStory
 any-lag-one-story strict lag enough gateway e sent q m x =
     let h = stand-of gateway sent m (record { sequence = q; lag = lag; enough = subst (λ (s : Bool). lag ≤ mostLag s) (sym e) enough; run = x }) in
-    record { told = h .told; read-normal = h .links true .read; read-redundant = h .links false .read; up = stand-up gateway sent m h }
+    record { told = h .told; used-normal = h .links true .read; used-redundant = h .links false .read; up = stand-up gateway sent m h }
 
 pub two-links-one-story : TwoLinksOneStory
 two-links-one-story = any-lag-one-story true 32768 (omega arith)
@@ -195,12 +195,13 @@ module _ (gateway : Gateway) (sent : List Packet) (q : Sequence gateway sent) (m
 -- ---- nothing is withheld
 
 pub nothing-withheld : NothingWithheld
-nothing-withheld gateway sent m x normal redundant a b wa wb =
+nothing-withheld gateway sent m x normal redundant =
     let h = stand-of gateway sent m x in
-    h .told
-    ∙ ap₂ (λ (i j : ℕ). take (max i j) sent)
-    (whole-used gateway true sent (m .normal) (h .links true) (m .normal .arrived) (m .normal .used) refl (λ k. k) (next-of gateway sent (x .sequence)) normal a wa)
-    (whole-used gateway false sent (m .redundant) (h .links false) (m .redundant .arrived) (m .redundant .used) refl (λ k. k) (next-of gateway sent (x .sequence)) redundant b wb)
+    let placed = next-of gateway sent (x .sequence) in (
+      whole-used gateway true sent (m .normal) (h .links true) (m .normal .arrived) (m .normal .used) refl (λ k. k) placed normal,
+      whole-used gateway false sent (m .redundant) (h .links false) (m .redundant .arrived) (m .redundant .used) refl (λ k. k) placed redundant,
+      h .told,
+    )
 
 pub drained-at-301 : DrainedAt301
 drained-at-301 gateway sent m x normal normalAt redundant redundantAt ln lr =

@@ -2,7 +2,7 @@
 -- Assumes nothing.
 use Prim.Native.Nat.{ℕ, _+_, _≤_, _<_}
 use mathlib.Core.Path.{_≡_, refl, sym, ap, _∙_, subst}
-use mathlib.Core.Bool.{Bool, true, false}
+use mathlib.Core.Bool.{Bool, true, false, false≢true}
 use mathlib.Core.List.{List, [], _∷_, _++_, List·Memᴰ, List·Memᴰ·head, List·Memᴰ·tail}
 use mathlib.Core.Logic.{_⊎_, inl, inr, ⊎-elim}
 use native.Mathlib.Omega.{arith}
@@ -16,11 +16,13 @@ use Rattle.packet_types.specs.Types.{callerOf, calledOf, classesOf, leastOf, in
 use Rattle.links.specs.Callers.{listed, notAllowed}
 use Rattle.links.specs.Table.{lengthFault, judgeable, bothDown, notOpening, notLater, tooFar, linkRows, classDRows, takenOf, userDataOf}
 use Rattle.one_story.specs.Sequence.{Packet, Gateway, Sequence, packetOn, bytesOn}
-use Rattle.one_story.specs.Run.{Moment, linkOf, start, handedBy, Run}
-use Rattle.one_story.specs.OneStory.{NotFarBehind, RunOf}
-use Rattle.one_story.specs.Losses.{noPacket, packetsAt, Keeps, broughtOf, furthest, passedNext, NotFarApart, NotFarFromTold, LateIsMissing}
+use Rattle.one_story.specs.Run.{Moment, linkOf, start, Drained, handedBy, Run}
+use Rattle.one_story.specs.OneStory.{NotFarBehind, RunOf, BothUp}
+use Rattle.one_story.specs.Losses.{noPacket, packetsAt, Keeps, broughtOf, furthest, passedNext, NotFarApart, NotFarNorLate, NotFarFromTold, LateIsMissing}
 use Rattle.one_story.specs.Met.{numbersOf}
-use Rattle.one_story.specs.Worked.{responder, four, fourOn, with, Answers, mixed, MixedSteps, WorkedRun, keeps, threeOnNormal, lossy, LooseSteps, StrictSteps, WorkedLoss}
+use Rattle.one_story.proofs.Long.{looked-is}
+use Rattle.one_story.specs.Worked.{responder, four, fourOn, with, Answers, mixed, MixedSteps, WorkedRun, keeps, threeOn, lossy, LooseSteps, StrictSteps, WorkedLoss}
+use Rattle.one_story.specs.Worked.{bothKeep, even, EvenSteps, WorkedBothLose}
 
 four-sent : (strict : Bool) → Sequence (responder strict) four
 unfolding openingFault leastOf fieldOf notAllowed listed callerOf calledOf
@@ -45,9 +47,10 @@ bytes-right : (bytesOn true four ≡ fourOn true) × (bytesOn false four ≡ fou
 unfolding packetOn bytesOf bitIn bitsIn bytesIn
 bytes-right = (refl, refl)
 
-three-right : bytesOn true (broughtOf four keeps true) ≡ threeOnNormal
+three-right : (normal : Bool) → bytesOn normal (packetsAt four (0 ∷ 1 ∷ 3 ∷ [])) ≡ threeOn normal
 unfolding packetOn bytesOf bitIn bitsIn bytesIn
-three-right = refl
+three-right true = refl
+three-right false = refl
 
 -- ---- the steps
 
@@ -85,6 +88,17 @@ strict-steps = record {
   second-again = (refl, refl);
   comes = (refl, refl);
   last = (refl, refl);
+}
+
+even-steps : EvenSteps
+unfolding lengthFault judgeable bothDown notOpening notLater tooFar linkRows classDRows takenOf fieldOf inClassD classesOf opens openingFault leastOf notAllowed listed callerOf calledOf distanceOf modulo bitIn bitsIn bytesIn handedBy userDataOf
+even-steps = record {
+  first = (refl, refl);
+  first-again = (refl, refl);
+  second = (refl, refl);
+  second-again = (refl, refl);
+  skips = (refl, refl);
+  skipped-again = (refl, refl);
 }
 
 -- ---- the runs
@@ -143,8 +157,8 @@ both-kept false = record { in-order = (lit≤ tt, lit< tt, (lit≤ tt, lit< tt, 
 -- all bytes arrive on both links
 arrived-on-both : (strict : Bool) {Near : Moment → Bool → Type 0} → Run (responder strict) (broughtOf four keeps) Near (lossy strict 0 0 0 0 [])
 arrived-on-both strict =
-    more (fourOn false) false 52 (with threeOnNormal true 42 (start (responder strict))) [] (bytes-right .1) refl
-    (more threeOnNormal true 42 (start (responder strict)) [] three-right refl Run.begun)
+    more (fourOn false) false 52 (with (threeOn true) true 42 (start (responder strict))) [] (bytes-right .1) refl
+    (more (threeOn true) true 42 (start (responder strict)) [] (three-right true) refl Run.begun)
 
 -- few places are passed
 few-apart : (m : Moment) → furthest keeps m ≤ 4 → passedNext keeps m true ≤ 4 → passedNext keeps m false ≤ 4 → (normal : Bool) → NotFarApart keeps m normal
@@ -191,12 +205,57 @@ strict-run =
 pub worked-loss : WorkedLoss
 worked-loss = record {
   kept = both-kept;
-  bytes = three-right;
+  bytes = three-right true;
   loose-steps = loose-steps;
   loose-run = loose-run;
   strict-steps = strict-steps;
   strict-run = strict-run;
 }
+
+-- ---- both links lose a packet
+
+three-kept : Keeps four (0 ∷ 1 ∷ 3 ∷ [])
+three-kept = both-kept true
+
+abbrev Even : Moment → Type 0
+Even m = Run (responder false) (broughtOf four bothKeep) (NotFarNorLate bothKeep) m
+
+-- a piece arrives on a link, and a step takes it: of the other link nothing is left
+even-step : (normal : Bool) (n : ℕ) (m : Moment) (rest : List ℕ) (answer : ℕ) (then : Moment)
+    → (linkOf normal m .arrived ++ take n (drop (length (linkOf normal m .arrived)) (threeOn normal))) ++ rest ≡ threeOn normal
+    → let now = with (threeOn normal) normal n m in
+    BothUp (now .state) → judgeable (linkOf normal now .arrived) (linkOf normal now .used) ≡ true → (normal ≡ false → Drained (now .normal)) → NotFarNorLate bothKeep now normal
+    → Answers (responder false) now answer then → Even m → Even then
+even-step normal n m rest answer then f up holds drained near a x =
+    let now = with (threeOn normal) normal n m in
+    subst Even (a .1)
+    (Run.steps (more (threeOn normal) normal n m rest (three-right normal) f x) (now .normal .arrived) (now .normal .used) (now .redundant .arrived) (now .redundant .used) refl refl
+    (λ looked looks. subst (NotFarNorLate bothKeep now) (sym (looked-is (responder false) now up normal holds drained looked looks)) near))
+
+-- of these places one before the third is before the second
+not-two : (place : ℕ) → List·Memᴰ place (0 ∷ 1 ∷ 3 ∷ []) → place < 3 → place < 2
+not-two place (List·Memᴰ·head e) h = omega (arith, e)
+not-two place (List·Memᴰ·tail (List·Memᴰ·head e)) h = omega (arith, e)
+not-two place (List·Memᴰ·tail (List·Memᴰ·tail (List·Memᴰ·head e))) h = let none : ⊥ = omega (arith, e) in absurd none
+
+even-run : Even (even 42 3 42 3 (0 ∷ 1 ∷ 3 ∷ []))
+unfolding judgeable lengthFault fieldOf
+even-run =
+    let a = even-step true 19 (start (responder false)) (drop 19 (threeOn true)) 0 _ refl (record { normal-up = refl; redundant-up = refl }) refl (λ f. absurd (false≢true (sym f)))
+    ((lit< tt, lit< tt), λ _ place i h. let none : ⊥ = omega arith in absurd none) (even-steps .first) Run.begun in
+    let b = even-step false 19 (even 19 1 0 0 (0 ∷ [])) (drop 19 (threeOn false)) 306 _ refl (record { normal-up = refl; redundant-up = refl }) refl (λ _. refl)
+    ((lit< tt, lit< tt), λ f. let none : ⊥ = omega arith in absurd none) (even-steps .first-again) a in
+    let c = even-step true 12 (even 19 1 19 1 (0 ∷ [])) (drop 31 (threeOn true)) 0 _ refl (record { normal-up = refl; redundant-up = refl }) refl (λ f. absurd (false≢true (sym f)))
+    ((lit< tt, lit< tt), λ _ place i h. omega arith) (even-steps .second) b in
+    let d = even-step false 12 (even 31 2 19 1 (0 ∷ 1 ∷ [])) (drop 31 (threeOn false)) 306 _ refl (record { normal-up = refl; redundant-up = refl }) refl (λ _. refl)
+    ((lit< tt, lit< tt), λ f. let none : ⊥ = omega arith in absurd none) (even-steps .second-again) c in
+    let e = even-step true 11 (even 31 2 31 2 (0 ∷ 1 ∷ [])) [] 0 _ refl (record { normal-up = refl; redundant-up = refl }) refl (λ f. absurd (false≢true (sym f)))
+    ((lit< tt, lit< tt), λ _ place i h. not-two place i (omega arith)) (even-steps .skips) d in
+    even-step false 11 (even 42 3 31 2 (0 ∷ 1 ∷ 3 ∷ [])) [] 306 _ refl (record { normal-up = refl; redundant-up = refl }) refl (λ _. refl)
+    ((lit< tt, lit< tt), λ f. let none : ⊥ = omega arith in absurd none) (even-steps .skipped-again) e
+
+pub worked-both-lose : WorkedBothLose
+worked-both-lose = record { kept = three-kept; bytes = three-right; steps = even-steps; run = even-run }
 
 -- ---- what comes late is missing
 

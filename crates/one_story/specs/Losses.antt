@@ -91,19 +91,23 @@ OneLoses keeps place = Loses (keeps true) place ⊎ Loses (keeps false) place
 abbrev pub BothLose : (Bool → List ℕ) → ℕ → Type 0
 BothLose keeps place = Loses (keeps true) place × Loses (keeps false) place
 
--- STORY-LOSS: the other link is not late: whatever it brings from before the packet taken has been used
+-- STORY-LOSS: the other link is not late: where the packet taken lies past the furthest, all that the other brings from before it is used
 abbrev pub OtherNotLate : (Bool → List ℕ) → Moment → Bool → Type 0
 OtherNotLate keeps m link =
-    (place : ℕ) → List·Memᴰ place (keeps (not link)) → suc place < passedNext keeps m link → place < passedOn keeps m (not link)
+    furthest keeps m < passedNext keeps m link
+    → (place : ℕ) → List·Memᴰ place (keeps (not link)) → suc place < passedNext keeps m link → place < passedOn keeps m (not link)
 
 -- STORY-LOSS: only packets that a link has lost are missing
 abbrev pub LooseMissesOnlyLost : Type 0
 LooseMissesOnlyLost = LooseStory NotFarApart OneLoses
 
+-- STORY-LOSS: neither far apart nor late
+abbrev pub NotFarNorLate : (Bool → List ℕ) → Moment → Bool → Type 0
+NotFarNorLate keeps m link = NotFarApart keeps m link × OtherNotLate keeps m link
+
 -- STORY-LOSS: only packets that both links have lost are missing, where the other link is not late
 abbrev pub LooseMissesBothLost : Type 0
-LooseMissesBothLost =
-    LooseStory (λ (keeps : Bool → List ℕ) (m : Moment) (link : Bool). NotFarApart keeps m link × OtherNotLate keeps m link) BothLose
+LooseMissesBothLost = LooseStory NotFarNorLate BothLose
 
 -- STORY-LOSS: where it may be late that is false: what it brings too late is dropped
 abbrev pub LateIsMissing : Type 0

@@ -45,8 +45,8 @@ larger m = max (m .normal .packets) (m .redundant .packets)
 -- was used; and both links are up
 pub record Story (sent : List Packet) (m : Moment) : Type 0 where
   pub told : m .handed ≡ take (larger m) sent
-  pub read-normal : FrontUsed true sent (m .normal)
-  pub read-redundant : FrontUsed false sent (m .redundant)
+  pub used-normal : FrontUsed true sent (m .normal)
+  pub used-redundant : FrontUsed false sent (m .redundant)
   pub up : BothUp (m .state)
 
 -- STORY-ONE: by the setting, strict or loose, and the lag that no link reaches
@@ -111,13 +111,13 @@ pub record Whole (normal : Bool) (brought : List Packet) (bytes : List ℕ) (n :
   pub all-there : length (bytesOn normal (take n brought)) ≤ length bytes
   pub no-more : (k : ℕ) → k ≤ length brought → length (bytesOn normal (take k brought)) ≤ length bytes → k ≤ n
 
--- STORY-ALL: nothing is withheld: where neither link holds a whole packet more, what has been handed up is the longer of the two first
--- parts that have arrived whole
+-- STORY-ALL: nothing is withheld: where neither link holds a whole packet more, the packets used are those that have arrived whole, and what
+-- has been handed up is the longer of the two first parts
 abbrev pub NothingWithheld : Type 0
 NothingWithheld =
     (gateway : Gateway) (sent : List Packet) (m : Moment) → Supposed gateway sent m → Drained (m .normal) → Drained (m .redundant)
-    → (a b : ℕ) → Whole true sent (m .normal .arrived) a → Whole false sent (m .redundant .arrived) b
-    → m .handed ≡ take (max a b) sent
+    → Whole true sent (m .normal .arrived) (m .normal .packets) × Whole false sent (m .redundant .arrived) (m .redundant .packets)
+    × (m .handed ≡ take (larger m) sent)
 
 -- STORY-ALL: which is where a step answers 301, and only there
 abbrev pub DrainedAt301 : Type 0

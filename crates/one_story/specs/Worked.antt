@@ -10,7 +10,7 @@ use Rattle.links.specs.Taken.{rememberedOf}
 use Rattle.one_story.specs.Sequence.{Packet, Gateway, freshOf, Sequence, bytesOn}
 use Rattle.one_story.specs.Run.{Link, Moment, linkOf, start, arrivedOn, takenThen, stepped, Run}
 use Rattle.one_story.specs.OneStory.{RunOf}
-use Rattle.one_story.specs.Losses.{packetsAt, Keeps, broughtOf, NotFarApart, NotFarFromTold}
+use Rattle.one_story.specs.Losses.{packetsAt, Keeps, broughtOf, NotFarApart, NotFarNorLate, NotFarFromTold}
 
 -- ---- what is sent
 
@@ -113,17 +113,21 @@ pub record WorkedRun : Type 0 where
 abbrev pub keeps : Bool → List ℕ
 keeps normal = cond normal (0 ∷ 1 ∷ 3 ∷ []) (0 ∷ 1 ∷ 2 ∷ 3 ∷ [])
 
--- STORY-LOSS: what it brings: packets of 19, 12 and 11
-abbrev pub threeOnNormal : List ℕ
-threeOnNormal =
+-- STORY-LOSS: what a link brings then: packets of 19, 12 and 11
+abbrev pub threeOn : Bool → List ℕ
+threeOn true =
     0 ∷ 17 ∷ 1 ∷ 26 ∷ 0 ∷ 0 ∷ 1 ∷ 1 ∷ 162 ∷ 2 ∷ 0 ∷ 0 ∷ 0 ∷ 7 ∷ 0 ∷ 0 ∷ 0 ∷ 9 ∷ 3
     ∷ 0 ∷ 10 ∷ 1 ∷ 27 ∷ 0 ∷ 1 ∷ 1 ∷ 3 ∷ 19 ∷ 195 ∷ 65 ∷ 66
     ∷ 0 ∷ 9 ∷ 1 ∷ 26 ∷ 0 ∷ 3 ∷ 1 ∷ 4 ∷ 113 ∷ 238 ∷ 5 ∷ []
+threeOn false =
+    0 ∷ 17 ∷ 1 ∷ 26 ∷ 0 ∷ 0 ∷ 0 ∷ 1 ∷ 187 ∷ 218 ∷ 0 ∷ 0 ∷ 0 ∷ 7 ∷ 0 ∷ 0 ∷ 0 ∷ 9 ∷ 3
+    ∷ 0 ∷ 10 ∷ 1 ∷ 27 ∷ 0 ∷ 1 ∷ 0 ∷ 3 ∷ 10 ∷ 27 ∷ 65 ∷ 66
+    ∷ 0 ∷ 9 ∷ 1 ∷ 26 ∷ 0 ∷ 3 ∷ 0 ∷ 4 ∷ 104 ∷ 54 ∷ 5 ∷ []
 
 -- STORY-LOSS: all has arrived on both links; so many bytes and packets are used of each
 abbrev pub lossy : Bool → ℕ → ℕ → ℕ → ℕ → List ℕ → Moment
 lossy strict used packets used′ packets′ places =
-    moment (responder strict) (link threeOnNormal 42 used packets) (link (fourOn false) 52 used′ packets′) places
+    moment (responder strict) (link (threeOn true) 42 used packets) (link (fourOn false) 52 used′ packets′) places
 
 -- STORY-LOSS: the loose setting skips the packet, and drops it when the redundant link, which is late, brings it
 pub record LooseSteps : Type 0 where
@@ -147,8 +151,39 @@ pub record StrictSteps : Type 0 where
 -- STORY-LOSS: the runs of the two settings over the same links
 pub record WorkedLoss : Type 0 where
   pub kept : (normal : Bool) → Keeps four (keeps normal)
-  pub bytes : bytesOn true (broughtOf four keeps true) ≡ threeOnNormal
+  pub bytes : bytesOn true (broughtOf four keeps true) ≡ threeOn true
   pub loose-steps : LooseSteps
   pub loose-run : Run (responder false) (broughtOf four keeps) (NotFarApart keeps) (lossy false 42 3 41 3 (0 ∷ 1 ∷ 3 ∷ []))
   pub strict-steps : StrictSteps
   pub strict-run : Run (responder true) (broughtOf four keeps) (NotFarFromTold keeps) (lossy true 42 3 52 4 (0 ∷ 1 ∷ 2 ∷ 3 ∷ []))
+
+-- ---- both links lose a packet
+
+-- STORY-LOSS: both links lose the packet at place 2
+abbrev pub bothKeep : Bool → List ℕ
+bothKeep normal = 0 ∷ 1 ∷ 3 ∷ []
+
+-- STORY-LOSS: so many bytes have arrived on each link and are used, in so many packets
+abbrev pub even : ℕ → ℕ → ℕ → ℕ → List ℕ → Moment
+even used packets used′ packets′ places =
+    moment (responder false) (link (threeOn true) used used packets) (link (threeOn false) used′ used′ packets′) places
+
+-- STORY-LOSS: so many bytes more arrive on a link, and a step of the loose setting is taken
+abbrev pub Evens : Bool → ℕ → Moment → ℕ → Moment → Type 0
+Evens normal n m answer then = Answers (responder false) (with (threeOn normal) normal n m) answer then
+
+-- STORY-LOSS: the links bring their packets in turn, so that neither is late
+pub record EvenSteps : Type 0 where
+  pub first : Evens true 19 (start (responder false)) 0 (even 19 1 0 0 (0 ∷ []))
+  pub first-again : Evens false 19 (even 19 1 0 0 (0 ∷ [])) 306 (even 19 1 19 1 (0 ∷ []))
+  pub second : Evens true 12 (even 19 1 19 1 (0 ∷ [])) 0 (even 31 2 19 1 (0 ∷ 1 ∷ []))
+  pub second-again : Evens false 12 (even 31 2 19 1 (0 ∷ 1 ∷ [])) 306 (even 31 2 31 2 (0 ∷ 1 ∷ []))
+  pub skips : Evens true 11 (even 31 2 31 2 (0 ∷ 1 ∷ [])) 0 (even 42 3 31 2 (0 ∷ 1 ∷ 3 ∷ []))
+  pub skipped-again : Evens false 11 (even 42 3 31 2 (0 ∷ 1 ∷ 3 ∷ [])) 306 (even 42 3 42 3 (0 ∷ 1 ∷ 3 ∷ []))
+
+-- STORY-LOSS: a run in which what is missing was lost on both links
+pub record WorkedBothLose : Type 0 where
+  pub kept : Keeps four (0 ∷ 1 ∷ 3 ∷ [])
+  pub bytes : (normal : Bool) → bytesOn normal (broughtOf four bothKeep normal) ≡ threeOn normal
+  pub steps : EvenSteps
+  pub run : Run (responder false) (broughtOf four bothKeep) (NotFarNorLate bothKeep) (even 42 3 42 3 (0 ∷ 1 ∷ 3 ∷ []))
