@@ -111,8 +111,8 @@ pub record Whole (normal : Bool) (brought : List Packet) (bytes : List ℕ) (n :
   pub all-there : length (bytesOn normal (take n brought)) ≤ length bytes
   pub no-more : (k : ℕ) → k ≤ length brought → length (bytesOn normal (take k brought)) ≤ length bytes → k ≤ n
 
--- STORY-ALL: nothing is withheld: where neither link holds a whole packet more, the packets used are those that have arrived whole, and what
--- has been handed up is the longer of the two first parts
+-- STORY-ALL: nothing is withheld: where neither link holds a whole packet more, the packets used are those that have arrived whole, and
+-- what has been handed up is the longer of the two first parts
 abbrev pub NothingWithheld : Type 0
 NothingWithheld =
     (gateway : Gateway) (sent : List Packet) (m : Moment) → Supposed gateway sent m → Drained (m .normal) → Drained (m .redundant)
