@@ -365,12 +365,14 @@ data-past place (suc n) (suc k) =
     let f : n - k ≡ suc n - suc k = omega arith in
     data-past (suc place) n k ∙ ap₂ dataFrom e f
 
-pub goes-past-the-wrap : GoesPastTheWrap
-unfolding longSequence dataFrom
-goes-past-the-wrap = ap numbersOf past ∙ last-three
-  where
-    past : drop 65535 (longSequence 65537) ≡ dataFrom 65535 3
-    past = data-past 1 65537 65534
+-- the sequence from a data packet on
+long-past : (n k : ℕ) → drop (suc k) (longSequence n) ≡ dataFrom (k + 1) (n - k)
+unfolding longSequence
+long-past n k = data-past 1 n k
 
-    last-three : numbersOf (dataFrom 65535 3) ≡ 65535 ∷ 0 ∷ 1 ∷ []
-    last-three = refl
+last-three : numbersOf (dataFrom 65535 3) ≡ 65535 ∷ 0 ∷ 1 ∷ []
+unfolding dataFrom
+last-three = refl
+
+pub goes-past-the-wrap : GoesPastTheWrap
+goes-past-the-wrap = ap numbersOf (long-past 65537 65534) ∙ last-three

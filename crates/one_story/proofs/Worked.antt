@@ -2,7 +2,7 @@
 -- Assumes nothing.
 use Prim.Native.Nat.{ℕ, _+_, _≤_, _<_}
 use mathlib.Core.Path.{_≡_, refl, sym, ap, _∙_, subst}
-use mathlib.Core.Bool.{Bool, true, false, false≢true}
+use mathlib.Core.Bool.{Bool, true, false, cond, false≢true}
 use mathlib.Core.List.{List, [], _∷_, _++_, List·Memᴰ, List·Memᴰ·head, List·Memᴰ·tail}
 use mathlib.Core.Logic.{_⊎_, inl, inr, ⊎-elim}
 use native.Mathlib.Omega.{arith}
@@ -11,22 +11,23 @@ use lib.ListN.{length, take, drop, getD}
 use Rattle.rules.specs.Modulo.{modulo}
 use Rattle.number.specs.Number.{distanceOf}
 use Rattle.field.specs.Field.{fieldOf, bytesOf}
+use Rattle.packet.specs.Sizes.{mostUserData}
 use Rattle.packet.specs.Check.{bitIn, bitsIn, bytesIn}
 use Rattle.packet_types.specs.Types.{callerOf, calledOf, classesOf, leastOf, inClassD, opens, openingFault}
 use Rattle.links.specs.Callers.{listed, notAllowed}
 use Rattle.links.specs.Table.{lengthFault, judgeable, bothDown, notOpening, notLater, tooFar, linkRows, classDRows, takenOf, userDataOf}
 use Rattle.one_story.specs.Sequence.{Packet, Gateway, Sequence, packetOn, bytesOn}
-use Rattle.one_story.specs.Run.{Moment, linkOf, start, Drained, handedBy, Run}
+use Rattle.one_story.specs.Run.{Moment, linkOf, nothingYet, start, Drained, handedBy, Run}
 use Rattle.one_story.specs.OneStory.{NotFarBehind, RunOf, BothUp}
 use Rattle.one_story.specs.Losses.{noPacket, packetsAt, Keeps, broughtOf, furthest, passedNext, NotFarApart, NotFarNorLate, NotFarFromTold, LateIsMissing}
 use Rattle.one_story.specs.Met.{numbersOf}
 use Rattle.one_story.proofs.Long.{looked-is}
-use Rattle.one_story.specs.Worked.{responder, four, fourOn, with, Answers, mixed, MixedSteps, WorkedRun, keeps, threeOn, lossy, LooseSteps, StrictSteps, WorkedLoss}
-use Rattle.one_story.specs.Worked.{bothKeep, even, EvenSteps, WorkedBothLose}
+use Rattle.one_story.specs.Worked.{responder, fourWith, four, fourOn, link, stateBehind, with, Answers, mixed, MixedSteps, WorkedRun, keeps, threeOn, lossy, LooseSteps, StrictSteps, WorkedLoss}
+use Rattle.one_story.specs.Worked.{bothKeep, even, EvenSteps, WorkedBothLose, AlikeIsNeeded}
 
-four-sent : (strict : Bool) → Sequence (responder strict) four
+with-sent : (strict : Bool) (userData : List ℕ) → length userData ≤ mostUserData → Sequence (responder strict) (fourWith userData)
 unfolding openingFault leastOf fieldOf notAllowed listed callerOf calledOf
-four-sent strict = (
+with-sent strict userData short = (
   record {
     version-fits = lit< tt;
     application-fits = lit< tt;
@@ -35,13 +36,16 @@ four-sent strict = (
     kinded = record { opening = refl; acceptable = refl; allowed = λ _. refl };
   },
   (
-    record { version-fits = lit< tt; application-fits = lit< tt; numbered = refl; short = lit≤ tt; kinded = inl refl },
+    record { version-fits = lit< tt; application-fits = lit< tt; numbered = refl; short = short; kinded = inl refl },
     (
       record { version-fits = lit< tt; application-fits = lit< tt; numbered = refl; short = lit≤ tt; kinded = inl refl },
       (record { version-fits = lit< tt; application-fits = lit< tt; numbered = refl; short = lit≤ tt; kinded = inr refl }, tt),
     ),
   ),
 )
+
+four-sent : (strict : Bool) → Sequence (responder strict) four
+four-sent strict = with-sent strict (65 ∷ 66 ∷ []) (lit≤ tt)
 
 bytes-right : (bytesOn true four ≡ fourOn true) × (bytesOn false four ≡ fourOn false)
 unfolding packetOn bytesOf bitIn bitsIn bytesIn
@@ -274,3 +278,43 @@ late-is-missing claim =
     let x = claim (responder false) refl four (four-sent false) keeps both-kept (lossy false 42 3 41 3 (0 ∷ 1 ∷ 3 ∷ [])) loose-run in
     ⊎-elim (λ i. not-there (subst (λ (l : List Packet). List·Memᴰ {A = ℕ} 2 (numbersOf l)) (sym (x .told)) (number-there 2 (x .places) i)))
     (λ lost. lost .1 (List·Memᴰ·tail (List·Memᴰ·tail (List·Memᴰ·head refl)))) (x .missing 2 (lit< tt))
+
+-- ---- the redundant link brings another user data
+
+abbrev otherFour : List Packet
+otherFour = fourWith (67 ∷ 68 ∷ [])
+
+-- its first two packets on the redundant link
+abbrev otherOn : List ℕ
+otherOn =
+    0 ∷ 17 ∷ 1 ∷ 26 ∷ 0 ∷ 0 ∷ 0 ∷ 1 ∷ 187 ∷ 218 ∷ 0 ∷ 0 ∷ 0 ∷ 7 ∷ 0 ∷ 0 ∷ 0 ∷ 9 ∷ 3 ∷ 0 ∷ 10 ∷ 1 ∷ 27 ∷ 0 ∷ 1 ∷ 0 ∷ 3 ∷ 10 ∷ 27 ∷ 67 ∷ 68 ∷ []
+
+other-right : otherOn ++ drop 31 (fourOn false) ≡ bytesOn false otherFour
+unfolding packetOn bytesOf bitIn bitsIn bytesIn
+other-right = refl
+
+-- they have arrived, and so many are used
+abbrev others : ℕ → ℕ → List ℕ → Moment
+others used packets places = record {
+  normal = nothingYet;
+  redundant = link otherOn 31 used packets;
+  state = stateBehind (responder true) places;
+  handed = packetsAt otherFour places;
+}
+
+other-steps : Answers (responder true) (others 0 0 []) 0 (others 19 1 (0 ∷ [])) × Answers (responder true) (others 19 1 (0 ∷ [])) 0 (others 31 2 (0 ∷ 1 ∷ []))
+unfolding lengthFault judgeable bothDown notOpening notLater tooFar linkRows classDRows takenOf fieldOf inClassD classesOf opens openingFault leastOf notAllowed listed callerOf calledOf distanceOf modulo bitIn bitsIn bytesIn handedBy userDataOf
+other-steps = ((refl, refl), (refl, refl))
+
+other-run : Run (responder true) (λ (normal : Bool). cond normal four otherFour) (NotFarBehind 32768) (others 31 2 (0 ∷ 1 ∷ []))
+other-run =
+    goes (others 19 1 (0 ∷ [])) (few (others 19 1 (0 ∷ [])) (lit≤ tt) (lit≤ tt)) 0 (others 31 2 (0 ∷ 1 ∷ [])) (other-steps .1)
+    (goes (others 0 0 []) (few (others 0 0 []) (lit≤ tt) (lit≤ tt)) 0 (others 19 1 (0 ∷ [])) (other-steps .0)
+    (Run.arrives Run.begun false otherOn (drop 31 (fourOn false)) other-right))
+
+-- what was handed up second begins with 67, what was sent second with 65
+pub alike-is-needed : AlikeIsNeeded
+alike-is-needed claim =
+    let x = claim (responder true) refl four otherFour (four-sent true) (with-sent true (67 ∷ 68 ∷ []) (lit≤ tt)) refl (others 31 2 (0 ∷ 1 ∷ [])) other-run in
+    let e : _≡_ {A = ℕ} 67 65 = ap (λ (handed : List Packet). getD (getD handed 1 noPacket .userData) 0 0) (x .told) in
+    omega (arith, e)

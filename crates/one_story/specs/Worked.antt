@@ -9,7 +9,8 @@ use Rattle.links.specs.declared.State.{State}
 use Rattle.links.specs.Taken.{rememberedOf}
 use Rattle.one_story.specs.Sequence.{Packet, Gateway, freshOf, Sequence, bytesOn}
 use Rattle.one_story.specs.Run.{Link, Moment, linkOf, start, arrivedOn, takenThen, stepped, Run}
-use Rattle.one_story.specs.OneStory.{RunOf}
+use Rattle.one_story.specs.OneStory.{NotFarBehind, RunOf, Story}
+use Rattle.one_story.specs.Met.{numbersOf}
 use Rattle.one_story.specs.Losses.{packetsAt, Keeps, broughtOf, NotFarApart, NotFarNorLate, NotFarFromTold}
 
 -- ---- what is sent
@@ -19,13 +20,17 @@ abbrev pub responder : Bool → Gateway
 responder strict = record { responder = true; strict = strict; callers = 0 ∷ 0 ∷ 0 ∷ 7 ∷ []; ours = 9 }
 
 -- STORY-MET: an AU1, data, data without user data, and a release; version and application type differ from packet to packet
-abbrev pub four : List Packet
-four =
+abbrev pub fourWith : List ℕ → List Packet
+fourWith userData =
     record { version = 1; application = 26; number = 0; kind = 1; userData = 0 ∷ 0 ∷ 0 ∷ 7 ∷ 0 ∷ 0 ∷ 0 ∷ 9 ∷ 3 ∷ [] }
-    ∷ record { version = 1; application = 27; number = 1; kind = 3; userData = 65 ∷ 66 ∷ [] }
+    ∷ record { version = 1; application = 27; number = 1; kind = 3; userData = userData }
     ∷ record { version = 2; application = 26; number = 2; kind = 3; userData = [] }
     ∷ record { version = 1; application = 26; number = 3; kind = 4; userData = 5 ∷ [] }
     ∷ []
+
+-- STORY-MET: the data are two bytes
+abbrev pub four : List Packet
+four = fourWith (65 ∷ 66 ∷ [])
 
 -- STORY-MET: their bytes on each link: packets of 19, 12, 10 and 11
 abbrev pub fourOn : Bool → List ℕ
@@ -187,3 +192,13 @@ pub record WorkedBothLose : Type 0 where
   pub bytes : (normal : Bool) → bytesOn normal (broughtOf four bothKeep normal) ≡ threeOn normal
   pub steps : EvenSteps
   pub run : Run (responder false) (broughtOf four bothKeep) (NotFarNorLate bothKeep) (even 42 3 42 3 (0 ∷ 1 ∷ 3 ∷ []))
+
+-- ---- the redundant link brings another user data
+
+-- STORY-SENT: where the redundant link brings another sequence, alike in its numbers, the claim is false
+abbrev pub AlikeIsNeeded : Type 0
+AlikeIsNeeded =
+    ((gateway : Gateway) → gateway .strict ≡ true → (sent other : List Packet) → Sequence gateway sent → Sequence gateway other
+    → numbersOf other ≡ numbersOf sent
+    → (m : Moment) → Run gateway (λ (normal : Bool). cond normal sent other) (NotFarBehind 32768) m → Story sent m)
+    → ⊥
