@@ -1,8 +1,8 @@
 -- One step of a cutting of two recorded links, as a step of a run: the normal link is used to its last whole packet before the redundant one is begun.
 -- Assumes nothing.
-use Prim.Native.Nat.{ℕ, _+_, _≤_}
+use Prim.Native.Nat.{ℕ, suc, _+_, _≤_, _<_}
 use mathlib.Core.Path.{_≡_, refl, sym, ap, _∙_, subst}
-use mathlib.Core.Bool.{Bool, true, false, cond, false≢true}
+use mathlib.Core.Bool.{Bool, true, false, not, cond, false≢true}
 use mathlib.Core.List.{List, [], _∷_, _++_, append-nil, append-assoc}
 use mathlib.Core.Logic.{_⊎_, inl, inr, ⊎-elim}
 use native.Mathlib.Omega.{arith}
@@ -10,7 +10,7 @@ use lib.Dec.{eqb}
 use lib.ListN.{length, length-append}
 use Rattle.rules.specs.Rows.{when_answer_else_}
 use Rattle.links.specs.declared.Taken.{Taken}
-use Rattle.links.specs.Table.{judgeable, userDataOf}
+use Rattle.links.specs.Table.{judgeable, held, userDataOf}
 use Rattle.links.proofs.Bools.{both-true}
 use Rattle.link_promises.specs.Promises.{looksAt}
 use Rattle.link_promises.proofs.Promises.{counts-its-user-data}
@@ -19,6 +19,8 @@ use Rattle.recording.specs.Progress.{countedOf}
 use Rattle.one_story.specs.Sequence.{Packet, Gateway}
 use Rattle.one_story.specs.Run.{Link, Moment, Lends, usedUp, handedBy, after, stepOf}
 use Rattle.one_story.specs.OneStory.{NotFarBehind, mostLag}
+use Rattle.one_story.proofs.Pieces.{next-of}
+use Rattle.one_story.proofs.Links.{not-all, more, arrived-there}
 use Rattle.one_story.proofs.Story.{Stand, Went}
 use Rattle.cut_story.specs.Names.{Name, linesOf, namedIn, namesOf}
 use Rattle.cut_story.specs.Windows.{Recorded}
@@ -89,7 +91,14 @@ module _ (gateway : Gateway) (sent : List Packet) (normalFile redundantFile : Li
   abbrev pub NormalFirst : Moment → Type 0
   NormalFirst m = (m .redundant .packets ≡ 0) ⊎ (judgeable normalFile (m .normal .used) ≡ false)
 
-  module _ (m : Moment) (h : Stand gateway sent m) (read : length (m .normal .arrived) ≤ length normalFile) (turn : NormalFirst m)
+  some-lag : 0 < lag
+  some-lag = by (gateway .strict)
+    where
+      by : (strict : Bool) → 0 < mostLag strict
+      by true = omega arith
+      by false = omega arith
+
+  module _ (m : Moment) (h : Stand gateway sent m) (read : length (m .normal .arrived) ≤ length normalFile) (read′ : length (m .redundant .arrived) ≤ length redundantFile) (turn : NormalFirst m)
       (normal : List ℕ) (normalAt : ℕ) (redundant : List ℕ) (redundantAt : ℕ) (ln : Lends (m .normal) normal normalAt) (lr : Lends (m .redundant) redundant redundantAt)
       (seen : judgeable normal normalAt ≡ judgeable normalFile (m .normal .used)) where
     -- no more packets are used of the normal link than its file has whole
@@ -98,11 +107,24 @@ module _ (gateway : Gateway) (sent : List Packet) (normalFile redundantFile : Li
         let r = h .links true .read in
         x .normal-whole .no-more (m .normal .packets) (r .first-part) (omega (arith, r .whole, r .there))
 
+    -- where the redundant link holds a packet, its file has one
+    some : judgeable redundant redundantAt ≡ true → 0 < b
+    some e =
+        let r = h .links false in
+        let all = not-all gateway false sent (m .redundant) r redundant redundantAt lr e in
+        let n = next-of gateway sent (x .sequence) (m .redundant .packets) all in
+        let there = arrived-there gateway false sent (m .redundant) r redundant redundantAt lr (m .redundant .packets) n e in
+        let one = more gateway false sent (m .redundant) r redundant redundantAt lr (m .redundant .packets) n in
+        let whole = x .redundant-whole .no-more (suc (m .redundant .packets)) all (omega (arith, one, there, r .read .whole)) in
+        omega arith
+
     pub near : (link : Bool) → looksAt normal normalAt redundant redundantAt (gateway .callers) (gateway .ours) (m .state) link ≡ true → NotFarBehind lag m link
     near true looks =
-        ⊎-elim (λ none. omega (arith, x .near))
+        ⊎-elim (λ none. omega (arith, some-lag))
         (λ drained. absurd (false≢true (sym drained ∙ sym seen ∙ both-true (m .state .«normal_up») (judgeable normal normalAt) looks .1))) turn
-    near false looks = omega (arith, few, x .near)
+    near false looks =
+        let held-there = both-true (not (held (m .state .«normal_up») normal normalAt)) (held (m .state .«redundant_up») redundant redundantAt) looks .1 in
+        omega (arith, few, x .near (some (both-true (m .state .«redundant_up») (judgeable redundant redundantAt) held-there .1)))
 
     normal-kept : (t : Taken) → t .normal ≡ false → after normal redundant t m .normal ≡ m .normal
     normal-kept t e = ap (λ (l : Bool). cond l (usedUp (m .normal) t) (m .normal)) e

@@ -109,6 +109,9 @@ module _ (gateway : Gateway) (sent : List Packet) (normalFile redundantFile : Li
     read : length (m .normal .arrived) ≤ length normalFile
     read = omega (arith, ap length (w .normal-arrived))
 
+    read′ : length (m .redundant .arrived) ≤ length redundantFile
+    read′ = omega (arith, ap length (w .redundant-arrived))
+
     goes : Went gateway sent (x .sequence) m h normalFile (m .normal .used) redundantFile (m .redundant .used) ln lr t
     goes = went gateway sent (x .sequence) m h normalFile (m .normal .used) redundantFile (m .redundant .used) ln lr
 
@@ -116,11 +119,11 @@ module _ (gateway : Gateway) (sent : List Packet) (normalFile redundantFile : Li
     whole-then = record {
       run =
           Run.steps (w .run) normalFile (m .normal .used) redundantFile (m .redundant .used) ln lr
-          (near gateway sent normalFile redundantFile a b x m h read (w .turn) normalFile (m .normal .used) redundantFile (m .redundant .used) ln lr refl);
+          (near gateway sent normalFile redundantFile a b x m h read read′ (w .turn) normalFile (m .normal .used) redundantFile (m .redundant .used) ln lr refl);
       normal-arrived = arrived-kept (t .normal) (m .normal) t .0 ∙ w .normal-arrived;
       redundant-arrived = arrived-kept (t .normal) (m .redundant) t .1 ∙ w .redundant-arrived;
       turn =
-          turn-after gateway sent normalFile redundantFile a b x m h read (w .turn) normalFile (m .normal .used) redundantFile (m .redundant .used) ln lr refl t goes;
+          turn-after gateway sent normalFile redundantFile a b x m h read read′ (w .turn) normalFile (m .normal .used) redundantFile (m .redundant .used) ln lr refl t goes;
     }
 
     -- the last step: all that the files have whole has been handed up

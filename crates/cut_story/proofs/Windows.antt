@@ -138,6 +138,9 @@ module _ (gateway : Gateway) (sent : List Packet) (normalFile redundantFile : Li
       read : length (m .normal .arrived) ≤ length normalFile
       read = omega (arith, ap length (was .normal-read), length-append (m .normal .arrived) normalToRead)
 
+      read′ : length (m .redundant .arrived) ≤ length redundantFile
+      read′ = omega (arith, ap length (was .redundant-read), length-append (m .redundant .arrived) redundantToRead)
+
       used : UsesNoMore t p
       used = uses normal redundant (gateway .callers) (gateway .ours) p (was .lies) same
 
@@ -147,7 +150,7 @@ module _ (gateway : Gateway) (sent : List Packet) (normalFile redundantFile : Li
         now = after s r t m;
         run =
             Run.steps (was .run) s (p .normal .from) r (p .redundant .from) ln lr
-            (near gateway sent normalFile redundantFile a b x m h read (was .turn) s (p .normal .from) r (p .redundant .from) ln lr seen);
+            (near gateway sent normalFile redundantFile a b x m h read read′ (was .turn) s (p .normal .from) r (p .redundant .from) ln lr seen);
         state = refl;
         handed = counts-handed s r t m (p .«handed_up») (was .handed);
         normal-read = ap (λ (l : List ℕ). l ++ normalToRead) (arrived-kept (t .normal) (m .normal) t .0) ∙ was .normal-read;
@@ -171,7 +174,7 @@ module _ (gateway : Gateway) (sent : List Packet) (normalFile redundantFile : Li
             (used-then (t .normal) (m .redundant) t .1)
             (other-follows (t .normal) redundantFile (m .redundant .used) redundant (p .redundant) redundantToRead (t .used) (was .lies .1) (was .redundant-follows) (used .1));
         turn =
-            turn-after gateway sent normalFile redundantFile a b x m h read (was .turn) s (p .normal .from) r (p .redundant .from) ln lr seen t
+            turn-after gateway sent normalFile redundantFile a b x m h read read′ (was .turn) s (p .normal .from) r (p .redundant .from) ln lr seen t
             (went gateway sent (x .sequence) m h s (p .normal .from) r (p .redundant .from) ln lr);
       }
 

@@ -37,5 +37,5 @@ recorded-four = record {
   redundant-part = record { rest = []; part = append-nil (fourOn false) ∙ sym (worked-run .bytes .1) };
   normal-whole = normal-whole;
   redundant-whole = record { within = lit≤ tt; all-there = omega (arith, ap length (worked-run .bytes .1)); no-more = λ k l h. l };
-  near = lit< tt;
+  near = λ _. lit< tt;
 }

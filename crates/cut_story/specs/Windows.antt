@@ -43,14 +43,14 @@ pub record FirstPart (normal : Bool) (sent : List Packet) (file : List ℕ) : Ty
   pub part : file ++ rest ≡ bytesOn normal sent
 
 -- STORY-CUT: two recorded links of a sequence, with so many whole packets each. `cut` uses the normal link's file to its last whole packet
--- before it begins with the other one: so it has fewer packets than the most lag.
+-- before it begins with the other one: so, unless that has none, the normal one has fewer packets than the most lag.
 pub record Recorded (gateway : Gateway) (sent : List Packet) (normalFile redundantFile : List ℕ) (a b : ℕ) : Type 0 where
   pub sequence : Sequence gateway sent
   pub normal-part : FirstPart true sent normalFile
   pub redundant-part : FirstPart false sent redundantFile
   pub normal-whole : Whole true sent normalFile a
   pub redundant-whole : Whole false sent redundantFile b
-  pub near : a < mostLag (gateway .strict)
+  pub near : 0 < b → a < mostLag (gateway .strict)
 
 -- STORY-WINDOW: the moment of a run at which a program stands that cuts two files through its windows: its state and its count, what was
 -- read of the files, and what was printed, the lines of its steps, of which those with answer 0 name what has been handed up

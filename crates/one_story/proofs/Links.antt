@@ -78,7 +78,7 @@ module _ (gateway : Gateway) (normal : Bool) (brought : List Packet) (link : Lin
     starts : drop at s ++ b .rest ≡ packetOn normal (n .packet) ++ bytesOn normal (drop (suc (link .packets)) brought)
     starts = unused ∙ ap (bytesOn normal) (n .onward)
 
-    more : length (bytesOn normal (take (suc (link .packets)) brought))
+    pub more : length (bytesOn normal (take (suc (link .packets)) brought))
         ≡ length (bytesOn normal (take (link .packets) brought)) + (packetHeaderSize + length (n .packet .userData))
     more =
         let size = packet-length gateway place (n .packet) (n .sent) normal in
