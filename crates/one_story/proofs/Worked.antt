@@ -19,7 +19,7 @@ use Rattle.links.specs.Table.{lengthFault, judgeable, bothDown, notOpening, not
 use Rattle.one_story.specs.Sequence.{Packet, Gateway, Sequence, packetOn, bytesOn}
 use Rattle.one_story.specs.Run.{Moment, linkOf, nothingYet, start, Drained, handedBy, Run}
 use Rattle.one_story.specs.OneStory.{NotFarBehind, RunOf, BothUp}
-use Rattle.one_story.specs.Losses.{noPacket, packetsAt, Keeps, broughtOf, furthest, passedNext, NotFarApart, NotFarNorLate, NotFarFromTold, LateIsMissing}
+use Rattle.one_story.specs.Losses.{noPacket, packetsAt, Keeps, broughtOf, furthest, passedNext, NotFarApart, NotFarNorLate, NotFarFromTold, LateIsMissing, LooseSkips}
 use Rattle.one_story.specs.Met.{numbersOf}
 use Rattle.one_story.proofs.Long.{looked-is}
 use Rattle.one_story.specs.Worked.{responder, fourWith, four, fourOn, link, stateBehind, with, Answers, mixed, MixedSteps, WorkedRun, keeps, threeOn, lossy, LooseSteps, StrictSteps, WorkedLoss}
@@ -165,56 +165,64 @@ arrived-on-both strict =
     (more (threeOn true) true 42 (start (responder strict)) [] (three-right true) refl Run.begun)
 
 -- few places are passed
-few-apart : (m : Moment) → furthest keeps m ≤ 4 → passedNext keeps m true ≤ 4 → passedNext keeps m false ≤ 4 → (normal : Bool) → NotFarApart keeps m normal
-few-apart m a b c true = (omega arith, omega arith)
-few-apart m a b c false = (omega arith, omega arith)
+record Few (m : Moment) : Type 0 where
+  used : furthest keeps m ≤ 4
+  told : length (m .handed) ≤ 4
+  next-normal : passedNext keeps m true ≤ 4
+  next-redundant : passedNext keeps m false ≤ 4
 
-few-told : (m : Moment) → length (m .handed) ≤ 4 → passedNext keeps m true ≤ 4 → passedNext keeps m false ≤ 4 → (normal : Bool) → NotFarFromTold keeps m normal
-few-told m a b c true = (omega arith, omega arith)
-few-told m a b c false = (omega arith, omega arith)
+few-apart : (m : Moment) → Few m → (normal : Bool) → NotFarApart keeps m normal
+few-apart m f true = (omega (arith, f .used, f .next-normal), omega (arith, f .next-normal))
+few-apart m f false = (omega (arith, f .used, f .next-redundant), omega (arith, f .next-redundant))
 
-abbrev Loose : Moment → Type 0
-Loose m = Run (responder false) (broughtOf four keeps) (NotFarApart keeps) m
+few-told : (m : Moment) → Few m → (normal : Bool) → NotFarFromTold keeps m normal
+few-told m f true = (omega (arith, f .told, f .next-normal), omega (arith, f .next-normal))
+few-told m f false = (omega (arith, f .told, f .next-redundant), omega (arith, f .next-redundant))
 
-loose-step : (m : Moment) → furthest keeps m ≤ 4 → passedNext keeps m true ≤ 4 → passedNext keeps m false ≤ 4 → (answer : ℕ) (n : Moment) → Answers (responder false) m answer n
-    → Loose m → Loose n
-loose-step m a b c answer n s x = goes m (few-apart m a b c) answer n s x
+-- the steps of a setting, whatever is supposed of it where few places are passed
+module _ (Near : Moment → Bool → Type 0) (few-near : (m : Moment) → Few m → (normal : Bool) → Near m normal) where
+  lossy-step : (strict : Bool) (m : Moment) → Few m → (answer : ℕ) (n : Moment) → Answers (responder strict) m answer n
+      → Run (responder strict) (broughtOf four keeps) Near m → Run (responder strict) (broughtOf four keeps) Near n
+  lossy-step strict m f answer n s x = goes m (few-near m f) answer n s x
 
-loose-run : Loose (lossy false 42 3 41 3 (0 ∷ 1 ∷ 3 ∷ []))
-loose-run =
-    let a = loose-step _ (lit≤ tt) (lit≤ tt) (lit≤ tt) 0 _ (loose-steps .first) (arrived-on-both false) in
-    let b = loose-step _ (lit≤ tt) (lit≤ tt) (lit≤ tt) 0 _ (loose-steps .second) a in
-    let c = loose-step _ (lit≤ tt) (lit≤ tt) (lit≤ tt) 0 _ (loose-steps .skips) b in
-    let d = loose-step _ (lit≤ tt) (lit≤ tt) (lit≤ tt) 306 _ (loose-steps .first-again) c in
-    let e = loose-step _ (lit≤ tt) (lit≤ tt) (lit≤ tt) 306 _ (loose-steps .second-again) d in
-    loose-step _ (lit≤ tt) (lit≤ tt) (lit≤ tt) 306 _ (loose-steps .late) e
+  abbrev few-of : {m : Moment} → furthest keeps m ≤ 4 → length (m .handed) ≤ 4 → passedNext keeps m true ≤ 4 → passedNext keeps m false ≤ 4 → Few m
+  few-of a b c d = record { used = a; told = b; next-normal = c; next-redundant = d }
 
-abbrev Strict : Moment → Type 0
-Strict m = Run (responder true) (broughtOf four keeps) (NotFarFromTold keeps) m
+  loose-run : Run (responder false) (broughtOf four keeps) Near (lossy false 42 3 41 3 (0 ∷ 1 ∷ 3 ∷ []))
+  loose-run =
+      let a = lossy-step false _ (few-of (lit≤ tt) (lit≤ tt) (lit≤ tt) (lit≤ tt)) 0 _ (loose-steps .first) (arrived-on-both false) in
+      let b = lossy-step false _ (few-of (lit≤ tt) (lit≤ tt) (lit≤ tt) (lit≤ tt)) 0 _ (loose-steps .second) a in
+      let c = lossy-step false _ (few-of (lit≤ tt) (lit≤ tt) (lit≤ tt) (lit≤ tt)) 0 _ (loose-steps .skips) b in
+      let d = lossy-step false _ (few-of (lit≤ tt) (lit≤ tt) (lit≤ tt) (lit≤ tt)) 306 _ (loose-steps .first-again) c in
+      let e = lossy-step false _ (few-of (lit≤ tt) (lit≤ tt) (lit≤ tt) (lit≤ tt)) 306 _ (loose-steps .second-again) d in
+      lossy-step false _ (few-of (lit≤ tt) (lit≤ tt) (lit≤ tt) (lit≤ tt)) 306 _ (loose-steps .late) e
 
-strict-step : (m : Moment) → length (m .handed) ≤ 4 → passedNext keeps m true ≤ 4 → passedNext keeps m false ≤ 4 → (answer : ℕ) (n : Moment) → Answers (responder true) m answer n
-    → Strict m → Strict n
-strict-step m a b c answer n s x = goes m (few-told m a b c) answer n s x
-
-strict-run : Strict (lossy true 42 3 52 4 (0 ∷ 1 ∷ 2 ∷ 3 ∷ []))
-strict-run =
-    let a = strict-step _ (lit≤ tt) (lit≤ tt) (lit≤ tt) 0 _ (strict-steps .first) (arrived-on-both true) in
-    let b = strict-step _ (lit≤ tt) (lit≤ tt) (lit≤ tt) 0 _ (strict-steps .second) a in
-    let c = strict-step _ (lit≤ tt) (lit≤ tt) (lit≤ tt) 307 _ (strict-steps .waits) b in
-    let d = strict-step _ (lit≤ tt) (lit≤ tt) (lit≤ tt) 306 _ (strict-steps .first-again) c in
-    let e = strict-step _ (lit≤ tt) (lit≤ tt) (lit≤ tt) 306 _ (strict-steps .second-again) d in
-    let f = strict-step _ (lit≤ tt) (lit≤ tt) (lit≤ tt) 0 _ (strict-steps .comes) e in
-    strict-step _ (lit≤ tt) (lit≤ tt) (lit≤ tt) 0 _ (strict-steps .last) f
+  strict-run : Run (responder true) (broughtOf four keeps) Near (lossy true 42 3 52 4 (0 ∷ 1 ∷ 2 ∷ 3 ∷ []))
+  strict-run =
+      let a = lossy-step true _ (few-of (lit≤ tt) (lit≤ tt) (lit≤ tt) (lit≤ tt)) 0 _ (strict-steps .first) (arrived-on-both true) in
+      let b = lossy-step true _ (few-of (lit≤ tt) (lit≤ tt) (lit≤ tt) (lit≤ tt)) 0 _ (strict-steps .second) a in
+      let c = lossy-step true _ (few-of (lit≤ tt) (lit≤ tt) (lit≤ tt) (lit≤ tt)) 307 _ (strict-steps .waits) b in
+      let d = lossy-step true _ (few-of (lit≤ tt) (lit≤ tt) (lit≤ tt) (lit≤ tt)) 306 _ (strict-steps .first-again) c in
+      let e = lossy-step true _ (few-of (lit≤ tt) (lit≤ tt) (lit≤ tt) (lit≤ tt)) 306 _ (strict-steps .second-again) d in
+      let f = lossy-step true _ (few-of (lit≤ tt) (lit≤ tt) (lit≤ tt) (lit≤ tt)) 0 _ (strict-steps .comes) e in
+      lossy-step true _ (few-of (lit≤ tt) (lit≤ tt) (lit≤ tt) (lit≤ tt)) 0 _ (strict-steps .last) f
 
 pub worked-loss : WorkedLoss
 worked-loss = record {
   kept = both-kept;
   bytes = three-right true;
   loose-steps = loose-steps;
-  loose-run = loose-run;
+  loose-run = loose-run (NotFarApart keeps) few-apart;
   strict-steps = strict-steps;
-  strict-run = strict-run;
+  strict-run = strict-run (NotFarFromTold keeps) few-told;
 }
+
+-- what was handed up third has the number 3, what was sent third 2
+pub loose-skips : LooseSkips
+loose-skips claim =
+    let x = claim (responder false) refl four (four-sent false) keeps both-kept (lossy false 42 3 41 3 (0 ∷ 1 ∷ 3 ∷ [])) (loose-run (NotFarFromTold keeps) few-told) in
+    let e : _≡_ {A = ℕ} 3 2 = ap (λ (handed : List Packet). getD handed 2 noPacket .number) (x .0) in
+    omega (arith, e)
 
 -- ---- both links lose a packet
 
@@ -275,7 +283,7 @@ not-there (List·Memᴰ·tail (List·Memᴰ·tail (List·Memᴰ·head e))) = ome
 
 pub late-is-missing : LateIsMissing
 late-is-missing claim =
-    let x = claim (responder false) refl four (four-sent false) keeps both-kept (lossy false 42 3 41 3 (0 ∷ 1 ∷ 3 ∷ [])) loose-run in
+    let x = claim (responder false) refl four (four-sent false) keeps both-kept (lossy false 42 3 41 3 (0 ∷ 1 ∷ 3 ∷ [])) (loose-run (NotFarApart keeps) few-apart) in
     ⊎-elim (λ i. not-there (subst (λ (l : List Packet). List·Memᴰ {A = ℕ} 2 (numbersOf l)) (sym (x .told)) (number-there 2 (x .places) i)))
     (λ lost. lost .1 (List·Memᴰ·tail (List·Memᴰ·tail (List·Memᴰ·head refl)))) (x .missing 2 (lit< tt))
 

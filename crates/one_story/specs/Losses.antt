@@ -120,10 +120,18 @@ abbrev pub NotFarFromTold : (Bool → List ℕ) → Moment → Bool → Type 0
 NotFarFromTold keeps m link =
     (length (m .handed) < passedNext keeps m link + 65535) × (passedNext keeps m link < length (m .handed) + 65536)
 
--- STORY-LOSS: whatever the links lose, the strict setting hands up a first part of the sequence: it never skips
-abbrev pub StrictNeverSkips : Type 0
-StrictNeverSkips =
-    (gateway : Gateway) → gateway .strict ≡ true → (sent : List Packet) → Sequence gateway sent
+-- STORY-LOSS: whatever the links lose, a setting hands up a first part of the sequence: it never skips
+abbrev pub NeverSkips : Bool → Type 0
+NeverSkips strict =
+    (gateway : Gateway) → gateway .strict ≡ strict → (sent : List Packet) → Sequence gateway sent
     → (keeps : Bool → List ℕ) → ((link : Bool) → Keeps sent (keeps link))
     → (m : Moment) → Run gateway (broughtOf sent keeps) (NotFarFromTold keeps) m
     → (m .handed ≡ take (length (m .handed)) sent) × BothUp (m .state)
+
+-- STORY-LOSS: so it is in the strict setting
+abbrev pub StrictNeverSkips : Type 0
+StrictNeverSkips = NeverSkips true
+
+-- STORY-LOSS: and not in the loose one
+abbrev pub LooseSkips : Type 0
+LooseSkips = NeverSkips false → ⊥
