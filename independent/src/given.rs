@@ -3,6 +3,7 @@
 use crate::calls;
 use crate::messages;
 use crate::packets;
+use crate::rowcalls;
 use crate::streams;
 use crate::tables;
 use crate::writes;
@@ -45,7 +46,7 @@ pub fn came_out(line: &str) -> String {
     line.split_once(" = ").map_or(String::new(), |(_, out)| out.to_string())
 }
 
-/// The lines of a file's inputs, of one kind; Err where its end is no whole input, or the kind is none.
+/// The lines of a file's inputs, of one kind; Err where its end is no whole input, where there is no such call, or the kind is none.
 pub fn lines(kind: &str, file: &[u8]) -> Result<Vec<String>, String> {
     let mut lines = Vec::new();
     let mut rest = file;
@@ -57,10 +58,11 @@ pub fn lines(kind: &str, file: &[u8]) -> Result<Vec<String>, String> {
             "packets" => packets::given(rest),
             "writes" => writes::given(rest),
             "tables" => tables::given(rest),
-            other => return Err(format!("{other}: not steps, messages, calls, packets, writes or tables")),
+            "rows" => rowcalls::given(rest),
+            other => return Err(format!("{other}: not steps, messages, calls, packets, writes, tables or rows")),
         };
         let Some((line, after)) = next else {
-            return Err(format!("input {} is cut", lines.len() + 1));
+            return Err(format!("input {} is cut, or is none", lines.len() + 1));
         };
         lines.push(line);
         rest = after;

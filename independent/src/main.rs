@@ -13,6 +13,8 @@ mod packet;
 mod packets;
 mod random;
 mod replay;
+mod rowcalls;
+mod rows;
 mod selftest;
 mod streams;
 mod table;
@@ -37,8 +39,9 @@ independent packets SEED COUNT [FILE]   random packets to be written, likewise
 independent writes SEED COUNT [FILE]    random messages to be written, likewise
 independent calls SEED COUNT [FILE]   random single connection calls, likewise
 independent tables SEED COUNT [FILE]    random calls on tables of 0, 1, 2, 64 and 65 records, likewise
+independent rows SEED COUNT [FILE]    random calls from C over rows of bytes, likewise
 independent traces SEED COUNT DIR     random traces
-independent given steps|messages|calls|packets|writes|tables FILE  what comes out for the inputs of a file
+independent given steps|messages|calls|packets|writes|tables|rows FILE  what comes out for the inputs of a file
 independent selftest                  the program's own tests";
 
 fn main() -> ExitCode {
@@ -74,6 +77,8 @@ fn run(words: &[&str]) -> Result<bool, String> {
         ["writes", seed, count, name] => both(name, writes(seed, count)?.map(|(bytes, line)| (bytes, given::came_out(&line)))),
         ["tables", seed, count] => print_lines(tables::HEADER, tables(seed, count)?.map(|(_, line)| line)),
         ["tables", seed, count, name] => both(name, tables(seed, count)?.map(|(bytes, line)| (bytes, given::came_out(&line)))),
+        ["rows", seed, count] => print_lines(rowcalls::HEADER, rows(seed, count)?.map(|(_, line)| line)),
+        ["rows", seed, count, name] => both(name, rows(seed, count)?.map(|(bytes, line)| (bytes, given::came_out(&line)))),
         ["traces", seed, count, folder] => traces_to(number(seed)?, number(count)? as usize, Path::new(folder)),
         ["given", kind, name] => print_all(given::lines(kind, &file(name)?)?.into_iter().map(|line| line + "\n")),
         ["selftest"] => {
@@ -139,6 +144,10 @@ fn writes(seed: &str, count: &str) -> Result<impl Iterator<Item = (Vec<u8>, Stri
 
 fn tables(seed: &str, count: &str) -> Result<impl Iterator<Item = (Vec<u8>, String)>, String> {
     Ok(tables::tables(number(seed)?, number(count)? as usize))
+}
+
+fn rows(seed: &str, count: &str) -> Result<impl Iterator<Item = (Vec<u8>, String)>, String> {
+    Ok(rowcalls::rows(number(seed)?, number(count)? as usize))
 }
 
 fn file(name: &str) -> Result<Vec<u8>, String> {

@@ -5,7 +5,7 @@ use crate::links::{self, Known, Role, State};
 use crate::message::{self, After, Message};
 use crate::packet::{self, Link, Packet};
 use crate::replay::{self, Call};
-use crate::{annex, calls, messages, streams, table, traces};
+use crate::{annex, calls, given, messages, rowcalls, rows, streams, table, traces};
 use std::collections::BTreeSet;
 use std::fmt::Debug;
 
@@ -55,9 +55,24 @@ pub fn all() -> Tests {
     error_counter(&mut tests);
     whole_set_up(&mut tests);
     table_sizes(&mut tests);
+    row_fields(&mut tests);
+    row_bounds(&mut tests);
+    free_fields(&mut tests);
+    closed_rows(&mut tests);
+    row_lengths(&mut tests);
+    row_refused_first(&mut tests);
+    row_callers_faults(&mut tests);
+    answer_rows(&mut tests);
+    rows_released(&mut tests);
+    set_up_over_rows(&mut tests);
+    rows_read(&mut tests);
+    rows_written(&mut tests);
+    rows_too_large(&mut tests);
+    row_files(&mut tests);
     trace_replay(&mut tests);
     trace_ages(&mut tests);
     everything_occurs(&mut tests);
+    everything_occurs_over_rows(&mut tests);
     tests
 }
 
@@ -833,6 +848,429 @@ fn table_sizes(tests: &mut Tests) {
     }
 }
 
+// Rows.
+
+/// A connection no two fields of which are alike, its row, and the numbers of its fields.
+const TOLD: Record = Record {
+    phase: 6,
+    settings: Settings { n: 0x0102, t_max: 0xA3A4, e: 0x5152, t_start: 0x6162, t_off: 0x7172, limit: 0x93 },
+    own_next_number: 0xB1B2,
+    period: 0xC1C2_C3C4,
+    last_number: 0xD1D2,
+    peer_stamp: 0xE1E2_E3E4,
+    arrival: 0xF1F2_F3F4,
+    wait_start: 0x2122_2324,
+    min: 0x3132_3334,
+    max: -0x7E7D_7C7C,
+    errors: 0x41,
+    clock: 0x1112_1314,
+};
+#[rustfmt::skip]
+const TOLD_ROW: [u8; 53] = [
+    6, 0x01, 0x02, 0, 0, 0xA3, 0xA4, 0, 0, 0x51, 0x52, 0, 0, 0x61, 0x62, 0, 0, 0x71, 0x72, 0x93, 0xB1, 0xB2, 0xC1, 0xC2, 0xC3, 0xC4, 0xD1, 0xD2,
+    0xE1, 0xE2, 0xE3, 0xE4, 0xF1, 0xF2, 0xF3, 0xF4, 0x21, 0x22, 0x23, 0x24, 0x31, 0x32, 0x33, 0x34, 0x81, 0x82, 0x83, 0x84, 0x41, 0x11, 0x12, 0x13, 0x14,
+];
+const TOLD_NUMBERS: [u32; 17] = [
+    6, 0x0102, 0xA3A4, 0x5152, 0x6162, 0x7172, 0x93, 0xB1B2, 0xC1C2_C3C4, 0xD1D2, 0xE1E2_E3E4, 0xF1F2_F3F4, 0x2122_2324, 0x3132_3334, 0x8182_8384, 0x41,
+    0x1112_1314,
+];
+const ZERO_ROW: [u8; 53] = [0; 53];
+
+/// What the host lends to one call.
+#[derive(Clone, PartialEq, Eq, Debug)]
+struct Host {
+    row: Vec<u8>,
+    out: Vec<u8>,
+    answer_row: Vec<u8>,
+}
+
+fn host(row: &[u8], room: usize, answer_size: usize) -> Host {
+    Host { row: row.to_vec(), out: vec![0xA5; room], answer_row: vec![0xA5; answer_size] }
+}
+
+/// One of the five calls; a 1xx must leave every byte, and another answer the bytes of out past what is written.
+fn over(before: &Host, kind: u8, now: u32, bytes: &[u8]) -> (u16, Host) {
+    let mut after = before.clone();
+    let number = rowcalls::called(kind, now, bytes, &mut after.row, &mut after.out, &mut after.answer_row);
+    if (100..200).contains(&number) {
+        assert_eq!(&after, before, "a 1xx leaves everything");
+    } else {
+        let written = usize::from(u16::from_be_bytes([after.answer_row[1], after.answer_row[2]]));
+        assert!(after.out[written..].iter().all(|byte| *byte == 0xA5), "the rest of out stays");
+    }
+    (number, after)
+}
+
+fn begin_given() -> Vec<u8> {
+    crate::craft::begin_bytes(0, &SET, 7, 50)
+}
+
+/// Whether a row is refused: by all five calls and when it is read, or by none.
+fn refused(row: &[u8]) -> bool {
+    let mut numbers = [0xA5A5_A5A5; 17];
+    let mut answers = vec![rows::read_row(row, &mut numbers)];
+    assert_eq!(numbers == [0xA5A5_A5A5; 17], answers[0] != 0, "a row that is refused is not read");
+    for kind in replay::BEGIN..=replay::CLOSE {
+        let bytes = if kind == replay::BEGIN { begin_given() } else { Vec::new() };
+        answers.push(over(&host(row, 1000, 11), kind, 0, &bytes).0);
+    }
+    let is = rows::connection_of(row).is_none();
+    assert!(answers.iter().all(|number| (*number == 109) == is), "all refuse it or none: {answers:?}");
+    is
+}
+
+/// Whether a record's row is refused; so is the writing of its numbers then, and a row that is written reads as the same record.
+fn record_refused(record: &Record) -> bool {
+    let row = calls::record_bytes(record);
+    let is = refused(&row);
+    let mut written = [0xA5; 53];
+    let number = rows::write_row(&rows::numbers_of(&row), &mut written);
+    assert_eq!((number, &written[..]), if is { (109, &[0xA5; 53][..]) } else { (0, &row[..]) }, "written where it is kept");
+    assert_eq!(rows::connection_of(&written), (!is).then_some(*record), "read again");
+    is
+}
+
+fn row_fields(tests: &mut Tests) {
+    tests.equal("a row's connection", rows::connection_of(&TOLD_ROW), Some(TOLD));
+    let mut numbers = [0; 17];
+    tests.equal("a row is read", (rows::read_row(&TOLD_ROW, &mut numbers), numbers), (0, TOLD_NUMBERS));
+    let mut row = [0; 53];
+    tests.equal("a row is written", (rows::write_row(&TOLD_NUMBERS, &mut row), row), (0, TOLD_ROW));
+    let (number, after) = over(&host(&TOLD_ROW, 0, 11), replay::TICK, 0x1112_1314, &[]);
+    tests.equal("a tick at the same now", (number, &after.row[..]), (0, &TOLD_ROW[..]));
+    let (_, after) = over(&host(&TOLD_ROW, 0, 11), replay::TICK, 0x1112_1415, &[]);
+    tests.equal("a tick moves the clock", (&after.row[..49], &after.row[49..]), (&TOLD_ROW[..49], &[0x11, 0x12, 0x14, 0x15][..]));
+    let (_, after) = over(&host(&TOLD_ROW, 17, 11), replay::SEND, 0x1112_1314, &[8, 9]);
+    tests.equal("a send moves our number", &after.row[20..22], &[0xB1, 0xB3][..]);
+    let sent = [6, 0xB1, 0xB2, 0x11, 0x12, 0x13, 0x14, 0xE1, 0xE2, 0xE3, 0xE4, 0xF1, 0xF2, 0xF3, 0xF4, 8, 9];
+    tests.equal("and echoes the peer's stamp", &after.out[..], &sent[..]);
+    let message = msg(0xD1D3, 0x4142_4344, 0, 0, After::Application { data: &[5] });
+    let (number, after) = over(&host(&TOLD_ROW, 25, 11), replay::RECEIVE, 0x1112_1314, &message::bytes_of(&message));
+    // 11121314 - 41424344 + 5152 - 31323334 = 9E9DEDEE, negative
+    tests.equal("min is the one of the age", (number, &after.answer_row[7..]), (206, &[0x9E, 0x9D, 0xED, 0xEE][..]));
+    tests.equal("the number heard", &after.row[26..28], &[0xD1, 0xD3][..]);
+    tests.equal("its stamp and arrival", &after.row[28..36], &[0x41, 0x42, 0x43, 0x44, 0x11, 0x12, 0x13, 0x14][..]);
+    tests.equal("the counter", after.row[48], 0x42);
+}
+
+/// Both sides of each bound of each field that is judged, in every phase that is not closed.
+fn row_bounds(tests: &mut Tests) {
+    let told = |n, t_max, e, t_start, t_off, limit, errors| Record { settings: Settings { n, t_max, e, t_start, t_off, limit }, errors, ..TOLD };
+    for (record, is) in [
+        (told(1, 1, 0, 1, 0, 1, 0), false), (told(1000, 60_000, 60_000, 60_000, 60_000, 255, 254), false), (told(0, 9, 9, 9, 9, 9, 0), true),
+        (told(1001, 9, 9, 9, 9, 9, 0), true), (told(65_535, 9, 9, 9, 9, 9, 0), true), (told(9, 0, 0, 9, 9, 9, 0), true),
+        (told(9, 60_001, 9, 9, 9, 9, 0), true), (told(9, 1 << 24, 9, 9, 9, 9, 0), true), (told(9, u32::MAX, 9, 9, 9, 9, 0), true),
+        (told(9, 9, 9, 9, 9, 9, 0), false), (told(9, 9, 10, 9, 9, 9, 0), true), (told(9, 9, 0, 9, 9, 9, 0), false),
+        (told(9, 60_000, 60_001, 9, 9, 9, 0), true), (told(9, 9, u32::MAX, 9, 9, 9, 0), true), (told(9, 9, 9, 0, 9, 9, 0), true),
+        (told(9, 9, 9, 1, 9, 9, 0), false), (told(9, 9, 9, 60_000, 9, 9, 0), false), (told(9, 9, 9, 60_001, 9, 9, 0), true),
+        (told(9, 9, 9, u32::MAX, 9, 9, 0), true), (told(9, 9, 9, 9, 0, 9, 0), false), (told(9, 9, 9, 9, 60_000, 9, 0), false),
+        (told(9, 9, 9, 9, 60_001, 9, 0), true), (told(9, 9, 9, 9, u32::MAX, 9, 0), true), (told(9, 9, 9, 9, 9, 0, 0), true),
+        (told(9, 9, 9, 9, 9, 1, 0), false), (told(9, 9, 9, 9, 9, 1, 1), true), (told(9, 9, 9, 9, 9, 9, 8), false),
+        (told(9, 9, 9, 9, 9, 9, 9), true), (told(9, 9, 9, 9, 9, 9, 10), true), (told(9, 9, 9, 9, 9, 9, 255), true),
+        (told(9, 9, 9, 9, 9, 255, 254), false), (told(9, 9, 9, 9, 9, 255, 255), true),
+    ] {
+        for phase in 1..=6 {
+            tests.equal("a bound of a row", record_refused(&Record { phase, ..record }), is);
+        }
+    }
+    for phase in 0..=255 {
+        tests.equal("a phase", record_refused(&Record { phase, ..TOLD }), !(1..=6).contains(&phase));
+    }
+}
+
+/// What is not judged may be anything.
+fn free_fields(tests: &mut Tests) {
+    for at in (20..48).chain(49..53) {
+        for byte in [0, 1, 127, 128, 255] {
+            let mut row = TOLD_ROW;
+            row[at] = byte;
+            tests.equal("a free byte", refused(&row), false);
+        }
+    }
+}
+
+/// Closed is all zero: with any byte that is not, a row is refused.
+fn closed_rows(tests: &mut Tests) {
+    tests.equal("the closed row", record_refused(&ALL_ZERO), false);
+    tests.equal("is the closed connection's", rows::connection_of(&ZERO_ROW), Some(ALL_ZERO));
+    for at in 0..53 {
+        for byte in [1, 128, 255] {
+            let mut row = ZERO_ROW;
+            row[at] = byte;
+            tests.equal("closed and not all zero", refused(&row), true);
+            let numbers = rows::numbers_of(&row);
+            tests.equal("nor is it written", rows::write_row(&numbers, &mut [0; 53]), 109);
+        }
+    }
+    tests.equal("closed with leftovers", record_refused(&Record { phase: 0, ..TOLD }), true);
+}
+
+fn row_lengths(tests: &mut Tests) {
+    for length in (0..=120).chain([530, 1000, 65_535]) {
+        for row in [&TOLD_ROW, &ZERO_ROW] {
+            for filled in [0, 7] {
+                let mut other = row.to_vec();
+                other.resize(length, filled);
+                tests.equal("a length", refused(&other), length != 53);
+            }
+        }
+    }
+}
+
+/// 109 stands before every other number, for a row and for an answer row of another length.
+fn row_refused_first(tests: &mut Tests) {
+    let (sound, waits) = (calls::record_bytes(&open(SET, 0, 10, 500)), calls::record_bytes(&initiator_waits_4(SET)));
+    let (begin, begin_104) = (begin_given(), crate::craft::begin_bytes(2, &SET, 7, 50));
+    let data = [5; 986];
+    for (row, kind, now, bytes, room, number) in [
+        (&ZERO_ROW[..], replay::RECEIVE, 0, &data[..], 0, 102), (&ZERO_ROW, replay::SEND, 0, &data, 0, 102), (&ZERO_ROW, replay::TICK, 0, &[], 0, 102),
+        (&ZERO_ROW, replay::CLOSE, 0, &[], 0, 102), (&sound, replay::BEGIN, 0, &begin_104, 0, 103), (&waits, replay::BEGIN, 0, &begin, 0, 103),
+        (&ZERO_ROW, replay::BEGIN, 0, &begin_104, 0, 104), (&ZERO_ROW, replay::BEGIN, 0, &begin, 18, 108), (&sound, replay::RECEIVE, 499, &data, 0, 105),
+        (&sound, replay::SEND, 499, &data, 0, 105), (&sound, replay::TICK, 499, &[], 0, 105), (&waits, replay::SEND, 1079, &data, 0, 105),
+        (&waits, replay::SEND, 1080, &data, 0, 106), (&sound, replay::SEND, 500, &data, 0, 107), (&sound, replay::SEND, 500, &data[..985], 999, 108),
+        (&sound, replay::RECEIVE, 500, &data, 24, 108), (&sound, replay::RECEIVE, 500, &data, 25, 201), (&sound, replay::CLOSE, 0, &[], 0, 0),
+        (&ZERO_ROW, replay::BEGIN, 0, &begin, 19, 0), (&sound, replay::SEND, 500, &data[..985], 1000, 0),
+    ] {
+        tests.equal("its own number", over(&host(row, room, 11), kind, now, bytes).0, number);
+        for answer_size in [0, 1, 10, 12, 22] {
+            tests.equal("109 by the answer row", over(&host(row, room, answer_size), kind, now, bytes).0, 109);
+        }
+        let mut longer = row.to_vec();
+        longer.push(0);
+        let spoiled = [&[row[0] | 128][..], &row[1..]].concat();
+        let last = [&row[..52], &[1][..]].concat();
+        for refused in [&row[..52], &longer[..], &spoiled[..], &[]] {
+            tests.equal("109 by the row", over(&host(refused, room, 11), kind, now, bytes).0, 109);
+        }
+        if row == ZERO_ROW {
+            tests.equal("109 by what is closed and not all zero", over(&host(&last, room, 11), kind, now, bytes).0, 109);
+        }
+    }
+}
+
+/// 01's order goes on behind 109, on the connection that the row stands for.
+fn row_callers_faults(tests: &mut Tests) {
+    let row = calls::record_bytes(&open(SET, 0, 10, 500));
+    for (kind, now, length, room, number) in [
+        (replay::SEND, 500, 20, 35, 0), (replay::SEND, 500, 20, 34, 108), (replay::SEND, 500, 0, 15, 0), (replay::SEND, 500, 0, 14, 108),
+        (replay::SEND, 500 + 0x7FFF_FFFF, 0, 15, 0), (replay::SEND, 500 + 0x8000_0000, 0, 15, 105), (replay::TICK, 500 + 0x7FFF_FFFF, 0, 0, 0),
+        (replay::TICK, 500 + 0x8000_0000, 0, 0, 105), (replay::RECEIVE, 500, 3, 25, 201), (replay::RECEIVE, 500, 3, 24, 108),
+    ] {
+        tests.equal("a caller's fault", over(&host(&row, room, 11), kind, now, &vec![5; length]).0, number);
+    }
+    let settings = |n, t_max, e, t_start, t_off, limit| Settings { n, t_max, e, t_start, t_off, limit };
+    for (role, settings, number) in [
+        (0, settings(1, 1, 0, 1, 0, 1), 0), (1, settings(1000, 60_000, 60_000, 60_000, 60_000, 255), 0), (2, SET, 104), (255, SET, 104),
+        (0, settings(0, 1, 0, 1, 0, 1), 104), (0, settings(1001, 1, 0, 1, 0, 1), 104), (1, settings(1, 0, 0, 1, 0, 1), 104),
+        (0, settings(1, 60_001, 0, 1, 0, 1), 104), (1, settings(1, 5, 6, 1, 0, 1), 104), (0, settings(1, 1, 0, 0, 0, 1), 104),
+        (1, settings(1, 1, 0, 60_001, 0, 1), 104), (0, settings(1, 1, 0, 1, 60_001, 1), 104), (1, settings(1, 1, 0, 1, 0, 0), 104),
+    ] {
+        let bytes = crate::craft::begin_bytes(role, &settings, 65_535, 9);
+        let (answer, after) = over(&host(&ZERO_ROW, 19, 11), replay::BEGIN, 77, &bytes);
+        tests.equal("begin", answer, number);
+        let phase = [connection::INITIATOR_WAITS_2, connection::RESPONDER_WAITS_1].get(usize::from(role)).filter(|_| number == 0);
+        tests.equal("the phase that it begins", after.row[0], *phase.unwrap_or(&connection::CLOSED));
+    }
+}
+
+/// An answer row: released 1, written 2, place 2, length 2, age 4.
+fn answer_rows(tests: &mut Tests) {
+    let application = |number, stamp, data| message::bytes_of(&msg(number, stamp, 0, 0, After::Application { data }));
+    let row = calls::record_bytes(&open(SET, 830, 10, 1170));
+    let near = calls::record_bytes(&Record { errors: 2, ..open(SET, 830, 10, 1170) });
+    let far = calls::record_bytes(&Record { settings: Settings { t_max: 60_000, ..SET }, ..open(SET, 830, 10, 1170) });
+    let (waits_4, waits_5) = (calls::record_bytes(&initiator_waits_4(SET)), calls::record_bytes(&responder_waits_5(SET)));
+    let failing = message::bytes_of(&msg(21, 270, 1080, 260, After::Est { min: -881, max: -840 }));
+    let end = message::bytes_of(&msg(42, 1130, 260, 1125, After::End { valid: true }));
+    let (one, three, most) = (&[7][..], &[7; 3][..], &[7; 985][..]);
+    for (row, kind, now, bytes, number, answer_row) in [
+        (&row, replay::RECEIVE, 1170, application(11, 300, one), 0, [0, 0, 0, 0, 15, 0, 1, 0, 0, 0, 40]),
+        (&row, replay::RECEIVE, 1170, application(11, 300, &[]), 0, [0, 0, 0, 0, 0, 0, 0, 0, 0, 0, 40]),
+        (&row, replay::RECEIVE, 1170, application(11, 340, most), 0, [0, 0, 0, 0, 15, 3, 0xD9, 0, 0, 0, 0]),
+        (&far, replay::RECEIVE, 6170, application(11, 4000, three), 0, [0, 0, 0, 0, 15, 0, 3, 0, 0, 5, 0x3C]),
+        (&row, replay::RECEIVE, 1170, application(13, 300, three), 204, [0, 0, 0, 0, 15, 0, 3, 0, 0, 0, 40]),
+        (&near, replay::RECEIVE, 1170, application(13, 300, three), 204, [1, 0, 0, 0, 15, 0, 3, 0, 0, 0, 40]),
+        (&near, replay::RECEIVE, 1170, application(13, 300, &[]), 204, [1, 0, 0, 0, 0, 0, 0, 0, 0, 0, 40]),
+        (&row, replay::RECEIVE, 1170, application(11, 299, three), 205, [0, 0, 0, 0, 0, 0, 0, 0, 0, 0, 41]),
+        (&row, replay::RECEIVE, 1170, application(11, 341, three), 206, [0, 0, 0, 0, 0, 0, 0, 255, 255, 255, 255]),
+        (&near, replay::RECEIVE, 1170, application(11, 0x8000_0154, three), 206, [1, 0, 0, 0, 0, 0, 0, 0x80, 0, 0, 0]),
+        (&row, replay::RECEIVE, 1170, application(10, 300, three), 202, [0; 11]),
+        (&near, replay::RECEIVE, 1170, application(10, 300, three), 202, [1, 0, 0, 0, 0, 0, 0, 0, 0, 0, 0]),
+        (&row, replay::RECEIVE, 1170, application(14, 300, three), 203, [1, 0, 0, 0, 0, 0, 0, 0, 0, 0, 0]),
+        (&row, replay::RECEIVE, 1170, vec![6], 201, [0; 11]),
+        (&row, replay::RECEIVE, 1170, message::bytes_of(&est(11)), 211, [0; 11]),
+        (&waits_4, replay::RECEIVE, 1120, message::bytes_of(&est(21)), 0, [0, 0, 16, 0, 0, 0, 0, 0, 0, 0, 0]),
+        (&waits_4, replay::RECEIVE, 1120, failing, 209, [1, 0, 16, 0, 0, 0, 0, 0, 0, 0, 0]),
+        (&waits_4, replay::RECEIVE, 1120, message::bytes_of(&est(22)), 204, [1, 0, 0, 0, 0, 0, 0, 0, 0, 0, 0]),
+        (&waits_5, replay::RECEIVE, 300, end, 0, [0; 11]),
+        (&row, replay::SEND, 1170, vec![7; 985], 0, [0, 3, 0xE8, 0, 0, 0, 0, 0, 0, 0, 0]),
+        (&row, replay::SEND, 1170, vec![], 0, [0, 0, 15, 0, 0, 0, 0, 0, 0, 0, 0]),
+        (&row, replay::TICK, 1170, vec![], 0, [0; 11]),
+        (&waits_4, replay::TICK, 1580, vec![], 207, [1, 0, 0, 0, 0, 0, 0, 0, 0, 0, 0]),
+        (&row, replay::CLOSE, 0, vec![], 0, [1, 0, 0, 0, 0, 0, 0, 0, 0, 0, 0]),
+        (&ZERO_ROW.to_vec(), replay::BEGIN, 0, begin_given(), 0, [0, 0, 19, 0, 0, 0, 0, 0, 0, 0, 0]),
+        (&ZERO_ROW.to_vec(), replay::BEGIN, 0, crate::craft::begin_bytes(1, &SET, 7, 50), 0, [0; 11]),
+    ] {
+        let (answer, after) = over(&host(row, 1000, 11), kind, now, &bytes);
+        tests.equal("an answer row", (answer, &after.answer_row[..]), (number, &answer_row[..]));
+        tests.equal("released is all zero", after.row == ZERO_ROW, answer_row[0] == 1);
+    }
+}
+
+/// What is released in set-up, when open and by close is a row that can be begun again.
+fn rows_released(tests: &mut Tests) {
+    let (waits_2, waits_1) = (begun(Role::Initiator, SET, 5).0, begun(Role::Responder, SET, 5).0);
+    for record in [waits_2, waits_1, initiator_waits_4(SET), responder_waits_3(SET), responder_waits_5(SET), open(SET, 0, 1, 5), TOLD] {
+        let row = calls::record_bytes(&record);
+        let (number, closed) = over(&host(&row, 0, 11), replay::CLOSE, 0, &[]);
+        tests.equal("close", (number, closed.answer_row[0], &closed.row[..]), (0, 1, &ZERO_ROW[..]));
+        tests.equal("close again", over(&host(&closed.row, 0, 11), replay::CLOSE, 0, &[]).0, 102);
+        let (number, again) = over(&host(&closed.row, 19, 11), replay::BEGIN, 1000, &begin_given());
+        tests.equal("begin again", (number, again.row), (0, calls::record_bytes(&begun(Role::Initiator, SET, 1000).0)));
+    }
+}
+
+/// Two ends of a host, each of them a row, as in the set-up by value above.
+fn set_up_over_rows(tests: &mut Tests) {
+    let mut ends = [ZERO_ROW.to_vec(), ZERO_ROW.to_vec()];
+    let mut under_way = Vec::new();
+    for (end, kind, now, role) in [
+        (1, replay::BEGIN, 0, 1), (0, replay::BEGIN, 1000, 0), (1, replay::RECEIVE, 160, 0), (0, replay::RECEIVE, 1020, 0), (1, replay::RECEIVE, 180, 0),
+        (0, replay::RECEIVE, 1040, 0), (1, replay::RECEIVE, 200, 0),
+    ] {
+        let bytes = if kind == replay::BEGIN { crate::craft::begin_bytes(role, &SET, 7, 50) } else { under_way };
+        let before: &Vec<u8> = &ends[end];
+        let (number, after) = over(&host(before, 25, 11), kind, now, &bytes);
+        tests.equal("a step of set-up over rows", (number, after.answer_row[0]), (0, 0));
+        under_way = after.out[..usize::from(after.answer_row[2])].to_vec();
+        ends[end] = after.row;
+    }
+    let fields = |row: &[u8]| {
+        let record = rows::connection_of(row).unwrap_or_default();
+        (record.phase, record.min, record.max, record.own_next_number, record.last_number, record.wait_start)
+    };
+    tests.equal("the initiator's row", fields(&ends[0]), (connection::OPEN, 840, 860, 10, 8, 0));
+    tests.equal("the responder's row", fields(&ends[1]), (connection::OPEN, -860, -840, 9, 9, 0));
+    let (_, sent) = over(&host(&ends[1], 19, 11), replay::SEND, 210, b"data");
+    let (number, after) = over(&host(&ends[0], 25, 11), replay::RECEIVE, 1070, &sent.out);
+    tests.equal("then data over rows", (number, &after.answer_row[..]), (0, &[0, 0, 0, 0, 15, 0, 4, 0, 0, 0, 20][..]));
+}
+
+fn rows_read(tests: &mut Tests) {
+    let spoiled = [&TOLD_ROW[..19], &[0][..], &TOLD_ROW[20..]].concat();
+    for (row, count, number) in [
+        (&TOLD_ROW[..], 17, 0), (&TOLD_ROW, 18, 0), (&TOLD_ROW, 40, 0), (&TOLD_ROW, 16, 108), (&TOLD_ROW, 1, 108), (&TOLD_ROW, 0, 108),
+        (&TOLD_ROW[..52], 17, 109), (&TOLD_ROW[..52], 16, 109), (&spoiled, 17, 109), (&spoiled, 0, 109), (&[], 0, 109), (&[], 17, 109),
+    ] {
+        let mut numbers = vec![0xA5A5_A5A5; count];
+        let answer = rows::read_row(row, &mut numbers);
+        let mut wanted = if answer == 0 { TOLD_NUMBERS.to_vec() } else { Vec::new() };
+        wanted.resize(count, 0xA5A5_A5A5);
+        tests.equal("a row read", (answer, numbers), (number, wanted));
+    }
+    let mut numbers = [9; 18];
+    tests.equal("the closed row read", (rows::read_row(&ZERO_ROW, &mut numbers), &numbers[..17], numbers[17]), (0, &[0; 17][..], 9));
+    for (min, max) in [(-1, 1), (i32::MIN, i32::MAX), (830, -880)] {
+        rows::read_row(&calls::record_bytes(&Record { min, max, ..TOLD }), &mut numbers);
+        tests.equal("offsets as two's complement", (numbers[13], numbers[14]), (min as u32, max as u32));
+    }
+}
+
+fn rows_written(tests: &mut Tests) {
+    let (mut zero, mut faulty) = (TOLD_NUMBERS, TOLD_NUMBERS);
+    zero[0] = 0;
+    faulty[15] = 0x93;
+    let longer = [&TOLD_NUMBERS[..], &[0; 13][..]].concat();
+    for (numbers, size, number) in [
+        (&TOLD_NUMBERS[..], 53, 0), (&TOLD_NUMBERS, 54, 0), (&TOLD_NUMBERS, 100, 0), (&TOLD_NUMBERS, 52, 108), (&TOLD_NUMBERS, 0, 108),
+        (&TOLD_NUMBERS[..16], 53, 109), (&TOLD_NUMBERS[..1], 53, 109), (&[], 53, 109), (&longer[..18], 53, 109), (&longer, 53, 109), (&longer, 100, 109),
+        (&TOLD_NUMBERS[..16], 52, 109), (&longer[..18], 0, 109), (&zero, 53, 109), (&zero, 52, 109), (&faulty, 53, 109), (&faulty, 0, 109),
+    ] {
+        let mut row = vec![0xA5; size];
+        let answer = rows::write_row(numbers, &mut row);
+        let mut wanted = if answer == 0 { TOLD_ROW.to_vec() } else { Vec::new() };
+        wanted.resize(size, 0xA5);
+        tests.equal("a row written", (answer, row), (number, wanted));
+    }
+    let mut row = [9; 54];
+    tests.equal("the closed row written", (rows::write_row(&[0; 17], &mut row), &row[..53], row[53]), (0, &ZERO_ROW[..], 9));
+}
+
+/// A number too large for its field, also one whose lower bytes would do; the largest that a free field has room for.
+fn rows_too_large(tests: &mut Tests) {
+    for numbers in [TOLD_NUMBERS, [0; 17]] {
+        for (at, width) in [(0, 1), (1, 2), (6, 1), (7, 2), (9, 2), (15, 1)] {
+            let least = 1 << (8 * width);
+            for number in [least, least + numbers[at], least + 1, 65_536, 1 << 24, u32::MAX, u32::MAX - 255 + (numbers[at] & 255)] {
+                let mut other = numbers;
+                other[at] = number;
+                for size in [53, 52] {
+                    tests.equal("a number too large", rows::write_row(&other, &mut vec![0; size]), 109);
+                }
+            }
+        }
+    }
+    for at in [7, 8, 9, 10, 11, 12, 13, 14, 16] {
+        let (mut numbers, mut row) = (TOLD_NUMBERS, [0; 53]);
+        numbers[at] = if [7, 9].contains(&at) { 65_535 } else { u32::MAX };
+        tests.equal("the largest", (rows::write_row(&numbers, &mut row), rows::numbers_of(&row)), (0, numbers));
+    }
+}
+
+/// An input of a file of row calls: kind 1, now 4, row size 2, room 2, answer size 2, length 2, the row, bytes.
+fn row_input(kind: u8, now: u32, row: &[u8], room: u16, answer_size: u16, bytes: &[u8]) -> Vec<u8> {
+    let mut input = vec![kind];
+    input.extend(now.to_be_bytes());
+    for size in [row.len() as u16, room, answer_size, bytes.len() as u16] {
+        input.extend(size.to_be_bytes());
+    }
+    [&input[..], row, bytes].concat()
+}
+
+fn row_files(tests: &mut Tests) {
+    let zeros = "00".repeat(53);
+    let told: String = TOLD_ROW.iter().map(|byte| format!("{byte:02x}")).collect();
+    let numbers: Vec<u8> = TOLD_NUMBERS.iter().flat_map(|number| number.to_be_bytes()).collect();
+    let numbers_text: String = TOLD_NUMBERS.iter().map(|number| format!("{number:08x}")).collect();
+    let unread = "a5".repeat(16 * 4);
+    let begun_text = [
+        "01", "0003", "00000028", "00000000", "000001f4", "0000000a", "03", "0008", "00000032", "0000", "00000000", "00000000", "000003e8", "00000000",
+        "00000000", "00", "000003e8",
+    ]
+    .concat();
+    let inputs = [
+        (row_input(1, 1000, &ZERO_ROW, 20, 11, &begin_given()), format!("0 {begun_text} 010007000003e8000000000000000000000032a5 0000130000000000000000")),
+        (row_input(2, 0, &ZERO_ROW, 3, 11, &[1]), format!("102 {zeros} a5a5a5 {}", "a5".repeat(11))),
+        (row_input(3, 0, &[], 0, 0, &[]), String::from("109 - - -")),
+        (row_input(4, 0x1112_1314, &TOLD_ROW, 9, 11, &[3]), format!("0 {told} - {}", "00".repeat(11))),
+        (row_input(4, 0x1112_1314, &TOLD_ROW, 9, 10, &[]), format!("109 {told} - {}", "a5".repeat(10))),
+        (row_input(5, 0, &TOLD_ROW, 2, 11, &[]), format!("0 {zeros} - 01{}", "00".repeat(10))),
+        (row_input(6, 0, &TOLD_ROW, 18, 11, &[1, 2, 3]), format!("0 {told} {numbers_text}a5a5a5a5 -")),
+        (row_input(6, 0, &TOLD_ROW, 16, 0, &[]), format!("108 {told} {unread} -")),
+        (row_input(6, 0, &[7], 0, 0, &[]), String::from("109 07 - -")),
+        (row_input(7, 0, &[0xFA; 54], 4, 11, &numbers), format!("0 {told}fa - -")),
+        (row_input(7, 0, &[0xFA], 0, 0, &numbers), String::from("108 fa - -")),
+        (row_input(7, 0, &[], 0, 0, &numbers[4..]), String::from("109 - - -")),
+    ];
+    for (input, line) in &inputs {
+        tests.equal("a row call of a file", given::lines("rows", input), Ok(vec![line.clone()]));
+        for cut in 1..input.len() {
+            tests.equal("a row call that is cut", given::lines("rows", &input[..cut]).is_err(), true);
+        }
+    }
+    let file: Vec<u8> = inputs.iter().flat_map(|(input, _)| input.clone()).collect();
+    tests.equal("a file of row calls", given::lines("rows", &file), Ok(inputs.iter().map(|(_, line)| line.clone()).collect()));
+    for none in [
+        row_input(0, 0, &ZERO_ROW, 0, 11, &[]), row_input(8, 0, &ZERO_ROW, 0, 11, &[]), row_input(1, 0, &ZERO_ROW, 0, 11, &begin_given()[..25]),
+        row_input(1, 0, &ZERO_ROW, 0, 11, &[0; 27]), row_input(7, 0, &ZERO_ROW, 0, 0, &numbers[1..]),
+    ] {
+        tests.equal("no row call", given::lines("rows", &none).is_err(), true);
+    }
+    let made: Vec<(Vec<u8>, String)> = rowcalls::rows(1, 2000).collect();
+    let file: Vec<u8> = made.iter().flat_map(|(bytes, _)| bytes.clone()).collect();
+    tests.equal("random row calls read again", given::lines("rows", &file), Ok(made.iter().map(|(_, line)| given::came_out(line)).collect()));
+}
+
 // Replay.
 
 fn trace_replay(tests: &mut Tests) {
@@ -914,6 +1352,73 @@ fn everything_occurs(tests: &mut Tests) {
             tests.equal("accepted writes back as the same bytes", message::bytes_of(&parsed) == bytes, true);
         }
     }
+}
+
+/// What calls over random rows must show: each answer of a call on a row with a phase, and the rows that were refused.
+#[derive(Default)]
+struct Seen {
+    answers: BTreeSet<(String, u8, String)>,
+    /// The lengths of refused rows, and where one that is closed but for one byte has that byte.
+    lengths: BTreeSet<usize>,
+    left_over: BTreeSet<usize>,
+}
+
+impl Seen {
+    /// Notes a line of `rows`.
+    fn note(&mut self, line: &str) {
+        let (given, out) = line.split_once(" = ").unwrap_or_default();
+        let given: Vec<&str> = given.split(' ').collect();
+        let (call, row, answer) = (given[0], bytes_in(given[2]), first_word(out));
+        if answer == "109" && given[4] == "11" {
+            self.lengths.insert(row.len());
+            let not_zero: Vec<usize> = (0..row.len()).filter(|at| row[*at] != 0).collect();
+            if let ([at], 53) = (&not_zero[..], row.len()) {
+                self.left_over.insert(*at);
+            }
+        }
+        if call == "write_row" || row.len() == 53 {
+            self.answers.insert((call.to_string(), *row.first().unwrap_or(&0), answer));
+        }
+    }
+
+    fn occurs(&self, call: &str, phase: u8, answer: u16) -> bool {
+        self.answers.contains(&(call.to_string(), phase, answer.to_string()))
+    }
+
+    fn answers_of(&self, call: &str) -> BTreeSet<String> {
+        self.answers.iter().filter(|(of, _, _)| of == call).map(|(_, _, answer)| answer.clone()).collect()
+    }
+}
+
+fn bytes_in(hex: &str) -> Vec<u8> {
+    (0..hex.len() / 2).filter_map(|at| u8::from_str_radix(&hex[2 * at..2 * at + 2], 16).ok()).collect()
+}
+
+fn everything_occurs_over_rows(tests: &mut Tests) {
+    let mut seen = Seen::default();
+    rowcalls::rows(1, 50_000).for_each(|(_, line)| seen.note(&line));
+    for (kind, phase, answers) in traces::POSSIBLE {
+        let call = traces::call_name(kind);
+        for answer in answers.iter().filter(|_| phase != traces::NO_SLOT) {
+            tests.equal(&format!("{call} in phase {phase} answers {answer}"), seen.occurs(call, phase, *answer), true);
+        }
+    }
+    for (call, phase) in [("begin", 0), ("receive", 1), ("receive", 2), ("receive", 3), ("receive", 4), ("receive", 5), ("receive", 6), ("send", 6)] {
+        tests.equal(&format!("{call} in phase {phase} answers 108"), seen.occurs(call, phase, 108), true);
+    }
+    for call in ["begin", "receive", "send", "tick", "close", "read_row"] {
+        for phase in (0..=7).chain([255]) {
+            tests.equal(&format!("{call} refuses a row of phase {phase}"), seen.occurs(call, phase, 109), true);
+        }
+        tests.equal(&format!("{call} does not answer 101"), seen.answers_of(call).contains("101"), false);
+    }
+    for call in ["read_row", "write_row"] {
+        tests.equal(call, seen.answers_of(call), BTreeSet::from(["0", "108", "109"].map(String::from)));
+    }
+    for length in (0..=120).chain([1000]) {
+        tests.equal(&format!("a refused row of {length} bytes"), seen.lengths.contains(&length), true);
+    }
+    tests.equal("each byte left over alone", seen.left_over, (0..53).collect());
 }
 
 /// The edge at which the line of a call on an open connection has its age.

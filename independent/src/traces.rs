@@ -59,7 +59,7 @@ pub const POSSIBLE: [(u8, u8, &[u16]); 40] = [
 ];
 
 pub fn call_name(kind: u8) -> &'static str {
-    ["", "begin", "receive", "send", "tick", "close"][usize::from(kind)]
+    ["", "begin", "receive", "send", "tick", "close", "read_row", "write_row"][usize::from(kind)]
 }
 
 pub fn phase_name(phase: u8) -> &'static str {

@@ -73,6 +73,19 @@ impl Centred {
     {
         self.0 < 0
     }
+
+    // The number mod 2^32: its two's complement.
+    fn bits(self) -> u32
+        ensures { λ r. ⌜ r ≡ wrapped (self .0) ⌝ }
+    {
+        let z = self.0;
+        let m = self.size();
+        if z < 0 {
+            std::num::wrapping_sub_u32(0, m)
+        } else {
+            m
+        }
+    }
 }
 
 impl Count {
@@ -100,17 +113,11 @@ impl Offset {
         Offset(z.0)
     }
 
-    // The number mod 2^32.
-    fn bits(self) -> u32
+    // The number mod 2^32: its two's complement.
+    pub fn bits(self) -> u32
         ensures { λ r. ⌜ r ≡ wrapped (self .0) ⌝ }
     {
-        let z = self.0;
-        let m = self.size();
-        if z < 0 {
-            std::num::wrapping_sub_u32(0, m)
-        } else {
-            m
-        }
+        Centred(self.0).bits()
     }
 
     // The centred difference of two counts.
@@ -231,5 +238,12 @@ impl Age {
         ensures { λ r. ⌜ r ≡ ltZ (self .0) (pos 0) ⌝ }
     {
         Centred(self.0).negative()
+    }
+
+    // The number mod 2^32: its two's complement.
+    pub fn bits(self) -> u32
+        ensures { λ r. ⌜ r ≡ wrapped (self .0) ⌝ }
+    {
+        Centred(self.0).bits()
     }
 }

@@ -1,0 +1,3 @@
+-- What rows, and the calls over them, promise.
+pub mod Rows
+pub mod Calls
