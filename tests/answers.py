@@ -34,3 +34,10 @@ def triples():
 # Those that a trace can reach: its out buffer has 1,000 bytes, so no call answers 108, and its records are made by the calls alone, so none is unsound.
 def triples_of_traces():
     return {(call, phase, answer) for call, phase, answer in triples() if answer not in ("101", "108")}
+
+
+# The calls from C, by the kind that a file of them has: the five, over a connection's row, and a row's reading and writing.
+ROW_CALLS = {**CALLS, 6: "read_row", 7: "write_row"}
+# The answers of each: in the place of 101 stands 109.
+OF_ROWS = {call: sorted({answer.replace("101", "109") for row in rows for answer in row.split()}, key=int) for call, rows in POSSIBLE.items()}
+OF_ROWS.update({call: ["0", "108", "109"] for call in ("read_row", "write_row")})

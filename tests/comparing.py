@@ -4,6 +4,7 @@ import collections
 import contextlib
 import hashlib
 import os
+import shutil
 import subprocess
 import sys
 import tempfile
@@ -41,6 +42,13 @@ def proved(name, words, given=b""):
     return must([RUN, name] + words, given)
 
 
+def emulator():
+    """The words that come before an x86-64 program's own: on another processor the toolchain's emulator, as tests/run-program has it."""
+    kit = os.environ.get("RATTLE_HOME") or os.path.dirname(os.path.dirname(os.path.realpath(shutil.which("rt"))))
+    path = os.path.join(kit, "on", os.uname().machine, "toolchain", "bin", "qemu-x86_64")
+    return [path] if os.access(path, os.X_OK) else []
+
+
 def number(given):
     """The number that bytes make, highest byte first."""
     return int.from_bytes(given, "big")
@@ -62,7 +70,7 @@ def inputs(given, size, between=lambda fields: 0):
         at = end
 
 
-def same(what, ours, theirs, given=lambda at: ""):
+def same(what, ours, theirs, given=lambda at: "", names=("proved program", "independent")):
     """Fails where two outputs differ: at which line and byte, what went in there, and both lines; of long ones, what is near that byte."""
     if ours == theirs:
         return
@@ -71,7 +79,8 @@ def same(what, ours, theirs, given=lambda at: ""):
     both = [b"".join(lines[at:at + 1]) for lines in (ours, theirs)]
     byte = len(os.path.commonprefix(both))
     near = [line[max(0, byte - NEAR):byte + NEAR] for line in both]
-    fail("%s: they differ at line %d, byte %d%s\nproved program: %s\nindependent: %s" % (what, at + 1, byte + 1, given(at), *near))
+    said = "".join("\n%s: %s" % pair for pair in zip(names, near))
+    fail("%s: they differ at line %d, byte %d%s%s" % (what, at + 1, byte + 1, given(at), said))
 
 
 def times(counts, names):

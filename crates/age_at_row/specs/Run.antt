@@ -58,7 +58,7 @@ module _ (W : World) where
           → refusedRows row (length answerRow) ≡ true
           → Run role settings u (whatItLeaves row u call lent out answerRow .said .row) log last
 
--- a run of calls over a row is a history of the record that the row stands for; the row is accepted by the next call
+-- ROW-12: a run of calls over a row is a history of the record that the row stands for; the row is accepted by the next call
 pub record RowHistory (W : World) (began : W .Moment) (role : ℕ) (settings : Settings) (t : W .Moment) (row : List ℕ)
     (log : List (Ours W)) (last : W .Moment) : Type 0 where
   pub accepted : rowRefusal row ≡ 0

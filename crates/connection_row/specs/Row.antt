@@ -31,8 +31,8 @@ settingsFrom fields =
 abbrev pub settingsNumbers : Settings → List ℕ
 settingsNumbers s = s .n ∷ s .«t_max» ∷ s .e ∷ s .«t_start» ∷ s .«t_off» ∷ s .limit ∷ []
 
--- ROW-1: the phase, the settings, own number and period, the peer's number, stamp and arrival, the start of the wait, min, max, the error counter,
--- the remembered clock
+-- ROW-1: the phase, the settings, own number and period, the peer's number, stamp and arrival, the start of the wait, min, max, the error
+-- counter, the remembered clock
 abbrev pub rowWidths : List ℕ
 rowWidths = 1 ∷ (settingsWidths ++ (2 ∷ 4 ∷ 2 ∷ 4 ∷ 4 ∷ 4 ∷ 4 ∷ 4 ∷ 1 ∷ 4 ∷ []))
 
@@ -44,7 +44,7 @@ countFrom n = record { 0 = n }
 abbrev pub offsetFrom : ℕ → Offset
 offsetFrom n = record { 0 = centred (pos n -ℤ pos 0) }
 
--- the record of these fields, in this order
+-- ROW-1: the record of these fields, in this order
 abbrev pub connectionFrom : List ℕ → Connection
 connectionFrom fields =
     ofParts (getD fields 0 0) (settingsFrom (drop 1 fields))

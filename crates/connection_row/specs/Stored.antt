@@ -17,8 +17,8 @@ unfoldable pub zeros : List ℕ → Bool
 zeros [] = true
 zeros (b ∷ s) = eqb b 0 && zeros s
 
--- CALL-109, a row that is refused: of another length (ROW-2); closed and not all zero (ROW-3); not closed, with a setting or the phase out of
--- range or the error counter not under its limit (ROW-4)
+-- CALL-109, a row that is refused: of another length (ROW-2); closed and not all zero (ROW-3); not closed, with a setting or the phase out
+-- of range or the error counter not under its limit (ROW-4)
 unfoldable pub rowRefusal : List ℕ → ℕ
 rowRefusal row =
     when not (eqb (length row) rowSize) answer 109 else

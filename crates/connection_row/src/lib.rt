@@ -6,8 +6,8 @@ ghost use lib.ListN.{length};
 ghost use lib.Seq.{sets};
 ghost use Rattle.field.specs.Field.{fieldOf};
 ghost use Rattle.field.specs.Row.{fieldsOf, widthOf, rowOf};
-ghost use Rattle.connection_row.specs.Row.{settingsWidths, settingsFrom, settingsNumbers, rowWidths, countFrom, offsetFrom, connectionFrom};
-ghost use Rattle.connection_row.specs.Row.{rowSize, offsetNumber, rowBytes};
+ghost use Rattle.connection_row.specs.Row.{settingsWidths, settingsFrom, settingsNumbers, rowWidths, countFrom, offsetFrom};
+ghost use Rattle.connection_row.specs.Row.{connectionFrom, rowSize, offsetNumber, rowBytes};
 ghost use Rattle.connection_row.specs.Stored.{zeros, rowRead, wrote, rowStored, rowWritten};
 use clock::Count;
 use clock::Offset;
@@ -181,7 +181,7 @@ pub fn put_row(row: &mut [u8], c: Connection)
 }
 
 // ROW-5: a row that is not refused is stored at the start of out.
-pub fn store_row(row: &[u8], out: &mut [u8]) -> u16
+fn store_row(row: &[u8], out: &mut [u8]) -> u16
     ensures { λ r. ⌜ wrote r (now (out .exit)) ≡ rowStored (now (row .entry)) (now (out .entry)) ⌝ }
 {
     let read = read_row(row);

@@ -3,7 +3,7 @@
 use Prim.Native.Nat.{ℕ, zero, suc, _+_, _^_, _<_, _≤_}
 use mathlib.Core.Path.{_≡_, refl, sym, ap, ap₂, subst, _∙_}
 use mathlib.Core.Bool.{Bool, true, false, not, _&&_}
-use mathlib.Core.List.{List, [], _∷_, _++_, append-assoc}
+use mathlib.Core.List.{List, [], _∷_, _++_, append-assoc, append-nil}
 use native.Mathlib.Omega.{arith}
 use native.Mathlib.Nat.{zero-add}
 use native.Mathlib.Numerals.{add-one}
@@ -12,9 +12,11 @@ use lib.Dec.{T, ltb, leb}
 use lib.ListN.{length, take, drop, set, getD, length-append, drop-of-length-le}
 use lib.Seq.{sets, drop-cons, take-all, take-length}
 use Rattle.field.specs.Field.{fieldOf, bytesOf}
-use Rattle.field.specs.Row.{fieldsFrom, fieldsOf, rowOf, widthOf}
+use Rattle.field.specs.Row.{fieldsFrom, fieldsOf, rowOf, widthOf, FitsRow}
 use Rattle.field.proofs.Field.{length-bytes, written-read}
+use Rattle.field.proofs.Row.{fields-of-row}
 use Rattle.field.proofs.Stores.{stores-append, copied}
+use Rattle.message.proofs.Rows.{and-left, and-right}
 use Rattle.connection_row.specs.Row.{rowWidths, rowSize}
 use Rattle.connection_row.proofs.Writes.{all-stored}
 use Rattle.row_calls.specs.Numbers.{fieldCount, fits}
@@ -58,11 +60,7 @@ row-next : (ws xs : List ℕ) (i : ℕ) → i < length ws → i < length xs
     → rowOf (take (suc i) ws) (take (suc i) xs) ≡ rowOf (take i ws) (take i xs) ++ bytesOf (getD ws i 0) (getD xs i 0)
 row-next [] xs i l m = let z : ⊥ = omega arith in absurd z
 row-next (w ∷ ws) [] i l m = let z : ⊥ = omega arith in absurd z
-row-next (w ∷ ws) (x ∷ xs) zero l m = nothing-behind (bytesOf w x)
-  where
-    nothing-behind : (s : List ℕ) → s ++ [] ≡ s
-    nothing-behind [] = refl
-    nothing-behind (b ∷ s) = ap (λ (t : List ℕ). b ∷ t) (nothing-behind s)
+row-next (w ∷ ws) (x ∷ xs) zero l m = append-nil (bytesOf w x)
 row-next (w ∷ ws) (x ∷ xs) (suc i) l m =
     ap (λ (s : List ℕ). bytesOf w x ++ s) (row-next ws xs i (omega arith) (omega arith))
     ∙ sym (append-assoc (bytesOf w x) (rowOf (take i ws) (take i xs)) (bytesOf (getD ws i 0) (getD xs i 0)))
@@ -131,16 +129,8 @@ narrow (w ∷ ws) = leb w 4 && narrow ws
 
 narrow-at : (ws : List ℕ) (i : ℕ) → narrow ws ≡ true → getD ws i 0 ≤ 4
 narrow-at [] i e = omega arith
-narrow-at (w ∷ ws) zero e = leb-true w 4 (first (leb w 4) (narrow ws) e)
-  where
-    first : (p q : Bool) → p && q ≡ true → p ≡ true
-    first true q e = refl
-    first false q e = e
-narrow-at (w ∷ ws) (suc i) e = narrow-at ws i (second (leb w 4) (narrow ws) e)
-  where
-    second : (p q : Bool) → p && q ≡ true → q ≡ true
-    second true q e = e
-    second false q e = absurd (subst T (sym e) tt)
+narrow-at (w ∷ ws) zero e = leb-true w 4 (and-left (leb w 4) (narrow ws) e)
+narrow-at (w ∷ ws) (suc i) e = narrow-at ws i (and-right (leb w 4) (narrow ws) e)
 
 -- what is known of the i-th field of a row that is at its place
 pub record Field (i at w : ℕ) : Type 0 where
@@ -197,3 +187,18 @@ module _ (fields : List ℕ) (count : length fields ≡ fieldCount) (i : ℕ) (l
           ap₂ (λ (a b : List ℕ). length (rowOf a b)) (sym (take-length ws)) (sym (take-all (length ws) xs (omega arith)))
           ∙ length-part ws xs (length ws) (omega arith) (omega arith)
           ∙ ap widthOf (take-length ws)
+
+-- ---- numbers that fit are read back
+
+fits-row : (ws xs : List ℕ) → fits ws xs ≡ true → FitsRow ws xs
+unfolding fits
+fits-row [] [] e = tt
+fits-row [] (x ∷ xs) e = absurd (subst T (sym e) tt)
+fits-row (w ∷ ws) [] e = absurd (subst T (sym e) tt)
+fits-row (w ∷ ws) (x ∷ xs) e =
+    (ltb-true x (256 ^ w) (and-left (ltb x (256 ^ w)) (fits ws xs) e), fits-row ws xs (and-right (ltb x (256 ^ w)) (fits ws xs) e))
+
+pub numbers-back : (fields : List ℕ) → fits rowWidths fields ≡ true → fieldsOf rowWidths (rowOf rowWidths fields) 0 ≡ fields
+numbers-back fields e =
+    ap (λ (l : List ℕ). fieldsOf rowWidths l 0) (sym (append-nil (rowOf rowWidths fields)))
+    ∙ fields-of-row rowWidths fields [] [] 0 refl (fits-row rowWidths fields e)

@@ -14,13 +14,13 @@ use Rattle.rules.specs.Rows.{when_answer_else_}
 use Rattle.clock.specs.Clock.{wrapped}
 use Rattle.clock.specs.declared.Count.{Count}
 use Rattle.field.specs.Field.{bytesOf}
-use Rattle.field.specs.Row.{fieldsOf, rowOf}
+use Rattle.field.specs.Row.{fieldsOf}
 use Rattle.connection.specs.declared.Connection.{Connection}
 use Rattle.connection.proofs.Ranges.{or-off}
 use Rattle.connection_row.specs.declared.RowRead.{RowRead}
 use Rattle.connection_row.specs.declared.RowRead.the-variants.{Is, Refused}
-use Rattle.connection_row.specs.Row.{rowWidths, rowSize, standsFor, rowBytes}
-use Rattle.connection_row.specs.Stored.{rowRefusal, rowRead, Wrote, wrote, rowStored}
+use Rattle.connection_row.specs.Row.{rowWidths, rowSize, connectionFrom, standsFor, rowBytes}
+use Rattle.connection_row.specs.Stored.{rowRefusal, rowRead, Wrote, wrote, rowWritten}
 use Rattle.connection_row.proofs.Accepts.{accepted-size, refused-with-109}
 use Rattle.calls.specs.declared.Answer.{Answer}
 use Rattle.calls.specs.declared.Call.{Call}
@@ -160,6 +160,6 @@ module _ (row fields : List ℕ) where
   unfolding fieldsWritten
   not-a-row e = rw e refl
 
-  pub a-row : (left : Wrote) (made : List ℕ) → fits rowWidths fields ≡ true → made ≡ rowOf rowWidths fields → left ≡ rowStored made row → left ≡ fieldsWritten fields row
+  pub a-row : (left : Wrote) (c : Connection) → fits rowWidths fields ≡ true → c ≡ connectionFrom fields → left ≡ rowWritten c row → left ≡ fieldsWritten fields row
   unfolding fieldsWritten
-  a-row left made f m e = rw f (e ∙ ap (λ (r : List ℕ). rowStored r row) m)
+  a-row left c f m e = rw f (e ∙ ap (λ (d : Connection). rowWritten d row) m)

@@ -6,9 +6,9 @@ use lib.Dec.{ltb, eqb}
 use lib.ListN.{length}
 use lib.Seq.{sets}
 use Rattle.rules.specs.Rows.{when_answer_else_}
-use Rattle.field.specs.Row.{fieldsOf, rowOf}
-use Rattle.connection_row.specs.Row.{rowWidths}
-use Rattle.connection_row.specs.Stored.{rowRefusal, Wrote, wrote, rowStored}
+use Rattle.field.specs.Row.{fieldsOf}
+use Rattle.connection_row.specs.Row.{rowWidths, connectionFrom}
+use Rattle.connection_row.specs.Stored.{rowRefusal, Wrote, wrote, rowWritten}
 
 -- ROW-9: how many fields a row has
 abbrev pub fieldCount : ℕ
@@ -28,8 +28,8 @@ fits [] (x ∷ xs) = false
 fits (w ∷ ws) [] = false
 fits (w ∷ ws) (x ∷ xs) = ltb x (256 ^ w) && fits ws xs
 
--- ROW-10: the row of these numbers is stored; CALL-109 also where they are not the numbers of a row
+-- ROW-10: the record of these numbers is written; CALL-109 also where they are not the numbers of a row
 unfoldable pub fieldsWritten : List ℕ → List ℕ → Wrote
 fieldsWritten fields row =
     when not (fits rowWidths fields) answer wrote 109 row else
-    rowStored (rowOf rowWidths fields) row
+    rowWritten (connectionFrom fields) row

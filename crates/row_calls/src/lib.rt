@@ -74,20 +74,23 @@ fn put_answer(row: &mut [u8], said: Answer)
 }
 
 // ROW-6, ROW-7: a call on the record is stored in both rows; CALL-KEPT: a caller's fault is not.
-fn store(row: &mut [u8], answer: &mut [u8], called: Called) -> u16
+fn store(row: &mut [u8], answer: &mut [u8], called: Called) -> u32
     requires { ⌜ (length (now row) ≡ rowSize) × (length (now answer) ≡ answerSize) ⌝ }
     requires { ⌜ (called .answer .written < 2 ^ 16) × (called .answer .delivered < 2 ^ 16) ⌝ }
     ensures { λ r. ⌜ stored r (now (row .exit)) (now (answer .exit)) ≡ storedIn (now (row .entry)) (now (answer .entry)) called ⌝ }
 {
     let said = called.answer;
     let next = called.next;
+    let number = said.number as u32;
     if callers_fault(said.number) {
-        return said.number;
+        return number;
     }
     connection_row::put_row(row, next);
     put_answer(answer, said);
-    said.number
+    number
 }
+
+// A number is returned in 32 bits, though 16 hold it: of a narrower result C's compilers differ in what the rest of the register may hold.
 
 // CALL-BEGIN over a row.
 #[no_mangle]
@@ -105,7 +108,7 @@ pub extern "C" fn zorakunju_begin(
     now: u32,
     out: &mut [u8],
     answer: &mut [u8],
-) -> u16
+) -> u32
     ensures { λ r. ⌜ leavesIn (stored r (row .exit .now) (answer .exit .now)) (out .exit .now)
         ≡ madeIn (Call.Begin (given role (settingsFrom (n ∷ «t_max» ∷ e ∷ «t_start» ∷ «t_off» ∷ limit ∷ [])) first period))
         (row .entry .now) (countFrom now) [] (out .entry .now) (answer .entry .now) ⌝ }
@@ -137,7 +140,7 @@ pub extern "C" fn zorakunju_receive(
     message: &[u8],
     out: &mut [u8],
     answer: &mut [u8],
-) -> u16
+) -> u32
     ensures { λ r. ⌜ leavesIn (stored r (row .exit .now) (answer .exit .now)) (out .exit .now)
         ≡ madeIn Call.Receive (row .entry .now) (countFrom now) (message .entry .now) (out .entry .now) (answer .entry .now) ⌝ }
 {
@@ -156,7 +159,7 @@ pub extern "C" fn zorakunju_send(
     data: &[u8],
     out: &mut [u8],
     answer: &mut [u8],
-) -> u16
+) -> u32
     ensures { λ r. ⌜ leavesIn (stored r (row .exit .now) (answer .exit .now)) (out .exit .now)
         ≡ madeIn Call.Send (row .entry .now) (countFrom now) («data» .entry .now) (out .entry .now) (answer .entry .now) ⌝ }
 {
@@ -169,7 +172,7 @@ pub extern "C" fn zorakunju_send(
 
 // CALL-TICK over a row.
 #[no_mangle]
-pub extern "C" fn zorakunju_tick(row: &mut [u8], now: u32, answer: &mut [u8]) -> u16
+pub extern "C" fn zorakunju_tick(row: &mut [u8], now: u32, answer: &mut [u8]) -> u32
     ensures { λ r. ⌜ leavesIn (stored r (row .exit .now) (answer .exit .now)) []
         ≡ madeIn Call.Tick (row .entry .now) (countFrom now) [] [] (answer .entry .now) ⌝ }
 {
@@ -182,7 +185,7 @@ pub extern "C" fn zorakunju_tick(row: &mut [u8], now: u32, answer: &mut [u8]) ->
 
 // CALL-CLOSE over a row.
 #[no_mangle]
-pub extern "C" fn zorakunju_close(row: &mut [u8], answer: &mut [u8]) -> u16
+pub extern "C" fn zorakunju_close(row: &mut [u8], answer: &mut [u8]) -> u32
     ensures { λ r. ⌜ leavesIn (stored r (row .exit .now) (answer .exit .now)) []
         ≡ madeIn Call.Close (row .entry .now) noCount [] [] (answer .entry .now) ⌝ }
 {
@@ -239,7 +242,7 @@ fn put_fields(row: &mut [u8], fields: &[u32]) -> bool
 
 // ROW-9.
 #[no_mangle]
-pub extern "C" fn zorakunju_read_row(row: &[u8], fields: &mut [u32]) -> u16
+pub extern "C" fn zorakunju_read_row(row: &[u8], fields: &mut [u32]) -> u32
     ensures { λ r. ⌜ wrote r (now (fields .exit)) ≡ fieldsRead (now (row .entry)) (now (fields .entry)) ⌝ }
 {
     let read = connection_row::read_row(row);
@@ -255,7 +258,7 @@ pub extern "C" fn zorakunju_read_row(row: &[u8], fields: &mut [u32]) -> u16
 
 // ROW-10.
 #[no_mangle]
-pub extern "C" fn zorakunju_write_row(fields: &[u32], row: &mut [u8]) -> u16
+pub extern "C" fn zorakunju_write_row(fields: &[u32], row: &mut [u8]) -> u32
     ensures { λ r. ⌜ wrote r (now (row .exit)) ≡ fieldsWritten (now (fields .entry)) (now (row .entry)) ⌝ }
 {
     if fields.len() != FIELDS {
@@ -263,7 +266,8 @@ pub extern "C" fn zorakunju_write_row(fields: &[u32], row: &mut [u8]) -> u16
     }
     let mut made = [0u8; ROW_SIZE];
     if put_fields(&mut made, fields) {
-        return connection_row::store_row(&made, row);
+        let number = connection_row::write_row(connection_row::connection_from(&made, 0), row);
+        return number as u32;
     }
     109
 }

@@ -19,6 +19,7 @@ use Rattle.clock.proofs.RoundTrip.{bits-there, bits-back}
 use Rattle.field.specs.Field.{fieldOf, bytesOf}
 use Rattle.field.specs.Row.{fieldsOf, rowOf, widthOf, FitsRow, Bytes}
 use Rattle.field.proofs.Row.{bytes-row, fields-fit, fields-of-row, row-of-fields}
+use Rattle.message.proofs.Rows.{and-left, and-right}
 use Rattle.connection.specs.declared.Connection.{Connection}
 use Rattle.connection.specs.Connection.{closed, initiatorWaitsFor2, opened, outOfRange, unsound, _outside_to_, ofParts, allZero}
 use Rattle.connection.proofs.Ranges.{or-off}
@@ -28,7 +29,7 @@ use Rattle.connection_row.specs.Stored.{zeros, rowRefusal, rowRead, Wrote, wrot
 use Rattle.connection_row.proofs.Accepts.{read-accepted}
 use Rattle.connection_row.proofs.Writes.{row-size}
 use Rattle.calls.proofs.Replies.{row-off}
-use Rattle.row_calls.specs.Numbers.{fits}
+use Rattle.row_calls.proofs.Fields.{numbers-back}
 use Rattle.row_promises.specs.Rows.{Ranges, Storable, WrittenReadsBack, ReadWritesBack, RowOfValid, AcceptsExactly, WritesExactly, NumbersAre}
 
 -- ---- numbers and records
@@ -123,15 +124,11 @@ ranges-of row b =
 
 -- ---- rows that are all zero
 
-all-of : (p q : Bool) → p && q ≡ true → (p ≡ true) × (q ≡ true)
-all-of true q e = (refl, e)
-all-of false q e = absurd (subst T (sym e) tt)
-
 zero-byte : (s : List ℕ) (i : ℕ) → zeros s ≡ true → getD s i 0 ≡ 0
 unfolding zeros
 zero-byte [] i z = refl
-zero-byte (b ∷ s) zero z = eqb-true b 0 (all-of (eqb b 0) (zeros s) z .0)
-zero-byte (b ∷ s) (suc i) z = zero-byte s i (all-of (eqb b 0) (zeros s) z .1)
+zero-byte (b ∷ s) zero z = eqb-true b 0 (and-left (eqb b 0) (zeros s) z)
+zero-byte (b ∷ s) (suc i) z = zero-byte s i (and-right (eqb b 0) (zeros s) z)
 
 zero-field : (s : List ℕ) (at w : ℕ) → zeros s ≡ true → fieldOf s at w ≡ 0
 unfolding fieldOf
@@ -298,24 +295,13 @@ writes-exactly c r =
       valid-is-written = valid-accepted c r;
     }
 
-fits-row : (ws xs : List ℕ) → fits ws xs ≡ true → FitsRow ws xs
-unfolding fits
-fits-row [] [] e = tt
-fits-row [] (x ∷ xs) e = absurd (subst T (sym e) tt)
-fits-row (w ∷ ws) [] e = absurd (subst T (sym e) tt)
-fits-row (w ∷ ws) (x ∷ xs) e =
-    let both = all-of (ltb x (256 ^ w)) (fits ws xs) e in
-    (ltb-true x (256 ^ w) (both .0), fits-row ws xs (both .1))
-
 pub numbers-are : NumbersAre
 unfolding standsFor rowBytes
 numbers-are =
     record {
       read = λ row b e. sym (numbers-of-fields row b);
       written = λ fields e.
-          let f : FitsRow rowWidths fields = fits-row rowWidths fields e in
           let row : List ℕ = rowOf rowWidths fields in
-          let same : fieldsOf rowWidths row 0 ≡ fields =
-          ap (λ (l : List ℕ). fieldsOf rowWidths l 0) (sym (append-nil row)) ∙ fields-of-row rowWidths fields [] [] 0 refl f in
+          let same : fieldsOf rowWidths row 0 ≡ fields = numbers-back fields e in
           ap (rowOf rowWidths) (sym (ap (λ (l : List ℕ). numbersOf (connectionFrom l)) (sym same) ∙ numbers-of-fields row (bytes-row rowWidths fields) ∙ same));
     }

@@ -33,7 +33,7 @@ pub record Passed (call : Call) (row : List ℕ) (now : Count) (lent : List ℕ)
 abbrev pub rowNumbers : Call → List ℕ
 rowNumbers call = 109 ∷ drop 1 (ruleOf call .numbers)
 
--- CALL-KEPT: no byte of the row, of the out buffer or of the answer row is another
+-- DEMAND-1, CALL-KEPT: no byte of the row, of the out buffer or of the answer row is another
 pub record NothingChanges (row out answerRow : List ℕ) (left : LeftIn) : Type 0 where
   pub same-row : left .said .row ≡ row
   pub same-out : left .out ≡ out
@@ -42,7 +42,8 @@ pub record NothingChanges (row out answerRow : List ℕ) (left : LeftIn) : Type 
 module _ (call : Call) (row : List ℕ) (now : Count) (lent out answerRow : List ℕ) where
   -- ROW-6: neither row is refused: the row after it stands for the next connection of the call by value, and is accepted in its turn
   pub record Moves : Type 0 where
-    pub same-number : madeIn call row now lent out answerRow .said .number ≡ outcomeOf call (standsFor row) now lent (length out) .number
+    pub same-number : madeIn call row now lent out answerRow .said .number
+        ≡ outcomeOf call (standsFor row) now lent (length out) .number
     pub same-out : madeIn call row now lent out answerRow .out ≡ made call (standsFor row) now lent out .out
     pub next : Passed call row now lent
         → standsFor (madeIn call row now lent out answerRow .said .row) ≡ outcomeOf call (standsFor row) now lent (length out) .next
@@ -56,7 +57,8 @@ module _ (call : Call) (row : List ℕ) (now : Count) (lent out answerRow : List
   -- DEMAND-1 of a call over a row
   pub record RowPromises : Type 0 where
     -- CALL-109: first of all
-    pub refused : refusedRows row (length answerRow) ≡ true → madeIn call row now lent out answerRow ≡ leavesIn (stored 109 row answerRow) out
+    pub refused : refusedRows row (length answerRow) ≡ true
+        → madeIn call row now lent out answerRow ≡ leavesIn (stored 109 row answerRow) out
     pub moves : refusedRows row (length answerRow) ≡ false → Moves
     pub number-listed : madeIn call row now lent out answerRow .said .number among rowNumbers call ≡ true
     pub refusal-changes-nothing : callersFault (madeIn call row now lent out answerRow .said .number) ≡ true

@@ -55,7 +55,7 @@ pub record Ranges (c : Connection) : Type 0 where
 abbrev pub Storable : Connection → Type 0
 Storable c = (c ≡ allZero) ⊎ (unsound c ≡ false)
 
--- ROW-11: reading a written row gives the same connection, wherever the row stands in what was lent
+-- ROW-11: a connection that was written is read back from the start of what was lent
 abbrev pub WrittenReadsBack : Type 0
 WrittenReadsBack =
     (c : Connection) (out : List ℕ) → Ranges c → rowWritten c out .number ≡ 0

@@ -7,3 +7,4 @@ pub mod Wrap
 pub mod CallsMissed
 pub mod PremisesMissed
 pub mod AtTable
+pub mod AtRow

@@ -1,7 +1,10 @@
--- `row_calls::zorakunju_write_row` meets its contract: the row of the numbers, made in a buffer of its own, is stored. Assumes nothing.
-use mathlib.Core.Path.{sym, _∙_}
-use Rattle.connection_row.specs.Row.{rowWidths}
-use Rattle.row_calls.proofs.Fields.{other-count}
+-- `row_calls::zorakunju_write_row` meets its contract: the record that the numbers' own row stands for is written. Assumes nothing.
+use Prim.Native.Nat.{ℕ}
+use mathlib.Core.Path.{sym, ap, _∙_}
+use mathlib.Core.List.{List}
+use Rattle.field.specs.Row.{fieldsOf}
+use Rattle.connection_row.specs.Row.{rowWidths, connectionFrom}
+use Rattle.row_calls.proofs.Fields.{other-count, numbers-back}
 use Rattle.row_calls.proofs.Leaves.{not-a-row, a-row}
 use borrow.Author.Needs.{needs}
 use Rattle.row_calls.proofs.zorakunju_write_row.Statement.{statement}
@@ -18,21 +21,32 @@ slice-aggregate-put-fields c = search needs
 put-fields-requires : tie.Need-put-fields-requires
 put-fields-requires c κs = search needs
 
-slice-aggregate-store-row : tie.Need-slice-aggregate-store-row
-slice-aggregate-store-row c = search needs
+slice-aggregate-connection-from : tie.Need-slice-aggregate-connection-from
+slice-aggregate-connection-from c = search needs
 
-store-row-requires : tie.Need-store-row-requires
-store-row-requires c κs = search needs
+connection-from-requires : tie.Need-connection-from-requires
+connection-from-requires c κs = search needs
+
+write-row-requires : tie.Need-write-row-requires
+write-row-requires c κs = search needs
+
+cast-result : tie.Need-cast-result
+cast-result c = search needs
 
 same-length : tie.Need-same-length
 same-length c = search needs
 
 returns-2 : tie.Need-returns-2
 returns-2 c =
-    let p = c .before .before .before .before .before .before .before in
+    let r = c .before .before .before .before in
+    let yes = r .before .before .if2 .taken in
+    let p = r .before .before .before .before in
     let a = p .before .before .before .before .before .args in
-    let yes = c .before .before .before .before .before .if2 .taken in
-    a-row (a .row .now) (a .fields .now) _ _ (sym (p .put-fields .ensures .0) ∙ yes) (p .put-fields .ensures .1 yes) (c .before .before .store-row .ensures)
+    let fit = sym (p .put-fields .ensures .0) ∙ yes in
+    let made = ap (λ (l : List ℕ). connectionFrom (fieldsOf rowWidths l 0)) (p .put-fields .ensures .1 yes) in
+    a-row (a .row .now) (a .fields .now) _ (r .connection-from .result) fit
+    (r .connection-from .ensures ∙ made ∙ ap connectionFrom (numbers-back (a .fields .now) fit))
+    (c .before .before .write-row .ensures)
 
 returns-3 : tie.Need-returns-3
 returns-3 c =
@@ -47,8 +61,10 @@ zorakunju-write-row-spec =
     returns
     slice-aggregate-put-fields
     put-fields-requires
-    slice-aggregate-store-row
-    store-row-requires
+    slice-aggregate-connection-from
+    connection-from-requires
+    write-row-requires
+    cast-result
     same-length
     returns-2
     returns-3)
