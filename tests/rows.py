@@ -6,13 +6,8 @@ import struct
 from ages import Ages
 from answers import CALLS, OF_ROWS, OPEN, ROW_CALLS, triples
 from comparing import answered, fail, must_occur, no_other, number, times
-from sheet import FIELDS, NAMES, RECORD, ROLES, fields_in
+from sheet import ANSWER_ROW, BEFORE, FIELDS, INPUT, NAMES, READ, RECORD, ROLES, WRITE, fields_in
 
-# An input in a file: kind 1, now 4, row size 2, room 2, answer size 2, length 2; then the row, and `length` bytes.
-INPUT = struct.Struct(">BIHHHH")
-READ, WRITE = "read_row", "write_row"
-# The answer row: released, written, place, length, age. What stands in it, in out and in fields before a call.
-ANSWER_ROW, BEFORE = struct.Struct(">BHHHi"), b"\xa5"
 # A row's fields as they are read and written: MIN and MAX as their 32 bits.
 ROW = struct.Struct(">" + "".join({1: "B", 2: "H", 4: "I"}[width] for _, width in FIELDS))
 # The ranges of a row that is not closed, beside E's up to T_max and the error counter's under the limit.

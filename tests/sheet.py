@@ -4,10 +4,10 @@ import os
 import re
 import struct
 
-from answers import AGED, CALLS, OPEN, PHASES
+from answers import AGED, CALLS, OPEN, PHASES, ROW_CALLS
 
 CASES = os.path.join(os.path.dirname(os.path.abspath(__file__)), "cases")
-FILES = ["links.cases", "packets.cases", "messages.cases", "calls.cases", "traces.cases", "sample.trace"]
+FILES = ["links.cases", "packets.cases", "messages.cases", "calls.cases", "rows.cases", "traces.cases", "sample.trace"]
 KINDS = {name: number for number, name in CALLS.items()}
 MESSAGES = {1: "OffsetStart", 2: "OffsetAnsw1", 3: "OffsetAnsw2", 4: "OffsetEst", 5: "OffsetEnd", 6: "application"}
 # A packet's fields before its user data.
@@ -354,6 +354,14 @@ def age_said(case, reports):
     return text or "0"
 
 
+# The bytes of a line `writes:`.
+def written_by(case):
+    item, inline = item_of(case, "writes:")
+    lines = hex_of(item, inline)
+    note_readings(case, lines)
+    return joined(lines)
+
+
 def read_call(case, records):
     before = record_of(item_of(case, "record:")[1], records)
     item, text = item_of(case, "call:")
@@ -371,10 +379,7 @@ def read_call(case, records):
         released, written, delivered, after = 0, b"", b"", before
     else:
         released = {"kept": 0, "released": 1}[what]
-        writes, inline = item_of(case, "writes:")
-        lines = hex_of(writes, inline)
-        note_readings(case, lines)
-        written = joined(lines)
+        written = written_by(case)
         delivers, inline = item_of(case, "delivers:")
         delivered = joined(hex_of(delivers, inline))
         after = record_after(item_of(case, "after:")[1], before)
@@ -383,6 +388,94 @@ def read_call(case, records):
     case.wanted = [line + " ".join(str(after[name]) for name in NAMES)]
     case.triple = kind, min(before["phase"], len(PHASES) - 1), case.answer
     case.says = case.answer + ("" if what == "nothing changes" else ", " + what)
+
+
+# Calls from C over a connection's row, and a row's reading and writing.
+
+# An input in a file of them: kind 1, now 4, row size 2, room 2, answer size 2, length 2; then the row, and `length` bytes.
+INPUT = struct.Struct(">BIHHHH")
+ROW_KINDS = {name: number for number, name in ROW_CALLS.items()}
+READ, WRITE = "read_row", "write_row"
+# The answer row: its fields, and its bytes. What stands in it, in out and in the numbers of a reading before a call.
+ANSWER, ANSWER_ROW, BEFORE = ["released", "written", "place", "length", "age"], struct.Struct(">BHHHi"), b"\xa5"
+# The words that a call has beside its name; of what its room counts, the bytes: out's single ones, or the numbers of a reading.
+HAS = {"begin": ["now", "room"], "receive": ["now", "room"], "send": ["now", "room"], "tick": ["now"], "close": [], READ: ["room"], WRITE: []}
+ROOM = {"begin": 1, "receive": 1, "send": 1, READ: 4}
+
+
+# Fields as the bytes of a row.
+def packed_row(fields):
+    return NUMBERS.pack(*fields.values())
+
+
+# The row before a call: a record's, with other values where it differs, or bytes. A comment beside bytes may give their fields, and must then be right.
+def row_before(case, records):
+    item, text = item_of(case, "row:")
+    if text.partition(" with ")[0] in records:
+        return packed_row(record_of(text, records))
+    lines = hex_of(item, text)
+    for bytes_, comment in lines:
+        reading = comment.split(";")[0].strip()
+        if reading.startswith("phase ") and bytes_ != packed_row(fields_of(reading, NAMES)):
+            raise Wrong("the comment says `%s`, the bytes say `%s`" % (reading, fields_in(bytes_)))
+    return joined(lines)
+
+
+# Numbers of a reading or a writing as bytes, four each.
+def numbers_of(text):
+    return b"".join(int(word).to_bytes(4, "big") for word in ([] if text == "nothing" else text.split(" ")))
+
+
+# The line `call:`: the call, its now, room and answer row's size, and the bytes that it is given.
+def row_call(case):
+    item, text = item_of(case, "call:")
+    head, _, settings = text.partition(": ")
+    found = re.fullmatch(r"(\w+)(?: now ([0-9]+))?(?: room ([0-9]+))?(?:, answer row of ([0-9]+) bytes)?", head)
+    if not found or [word for word, at in (("now", 2), ("room", 3)) if found[at]] != HAS[found[1]] or (found[4] and found[1] in (READ, WRITE)):
+        raise Wrong("%s: not a call with its words" % head)
+    kind, now, room, size = found[1], int(found[2] or 0), int(found[3] or 0), int(found[4] or ANSWER_ROW.size)
+    return kind, now, room, 0 if kind in (READ, WRITE) else size, numbers_of(settings) if kind == WRITE else given_bytes(case, item, settings)
+
+
+# The answer row that a case gives, with all its fields; `what` is whether the connection is kept or released.
+def answer_row(case, what):
+    given = fields_of(item_of(case, "answer row:")[1], ANSWER)
+    if list(given) != ANSWER or given["released"] != {"kept": 0, "released": 1}[what]:
+        raise Wrong("the answer row does not give each field once, in order, or `%s` is not what it says" % what)
+    return ANSWER_ROW.pack(*given.values())
+
+
+# What a call that is not refused leaves: the row, what is at the start of out (of a reading, its numbers), the answer row.
+def row_outcome(case, kind, before, what):
+    if kind in (READ, WRITE) and what:
+        raise Wrong("%s: a %s has no such answer" % (what, kind))
+    if kind == READ:
+        return before, numbers_of(item_of(case, "reads:")[1]), b""
+    item, text = item_of(case, "after:")
+    if kind == WRITE:
+        return joined(hex_of(item, text)), b"", b""
+    return packed_row(record_after(text, fields_in(before))), written_by(case) if "room" in HAS[kind] else b"", answer_row(case, what)
+
+
+# The lines that a call's case has beside `row:`, `call:` and `=>`, where it is not refused.
+def row_lines(kind):
+    return {READ: ["reads:"], WRITE: ["after:"]}.get(kind, ["writes:"] * ("room" in HAS[kind]) + ["answer row:", "after:"])
+
+
+def read_row_call(case, records):
+    before = row_before(case, records)
+    kind, now, room, size, bytes_ = row_call(case)
+    case.kind = "rows"
+    case.given = INPUT.pack(ROW_KINDS[kind], now, len(before), room, size, len(bytes_)) + before + bytes_
+    case.answer, _, what = item_of(case, "=>")[1].partition(", ")
+    refused = what == "nothing changes"
+    if len(case.items) != 3 + (0 if refused else len(row_lines(kind))):
+        raise Wrong("nothing changes, and yet more is said" if refused else "not the lines of a %s: %s" % (kind, " ".join(row_lines(kind))))
+    after, out, said = (before, b"", BEFORE * size) if refused else row_outcome(case, kind, before, what)
+    out += BEFORE * (room * ROOM.get(kind, 0) - len(out))
+    case.wanted = [" ".join([case.answer] + [part.hex() or "-" for part in (after, out, said)])]
+    case.triple = kind, before[0] if before else None, case.answer
+    case.says = case.answer + (", " + what if what and not refused else "")
 
 
 # Traces.
@@ -443,6 +536,7 @@ WORDS = {
     "packets.cases": ("write:", "data:", "written:", "=>"),
     "messages.cases": ("message:", "=>"),
     "calls.cases": ("record:", "call:", "writes:", "delivers:", "age:", "after:", "=>"),
+    "rows.cases": ("row:", "call:", "writes:", "answer row:", "reads:", "after:", "=>"),
     "traces.cases": ("after:", "phase:", "output:", "bytes ") + tuple(name + " " for name in KINDS),
 }
 WORDS["sample.trace"] = WORDS["traces.cases"]
@@ -460,6 +554,8 @@ def read(case, file, named):
         return read_message(case)
     if file == "calls.cases":
         return read_call(case, records_of(named.get("record", {})))
+    if file == "rows.cases":
+        return read_row_call(case, records_of(named.get("record", {})))
     return read_trace(case, named.get("history", {}))
 
 
@@ -471,7 +567,7 @@ def cases():
         for case in listed:
             try:
                 read(case, file, named)
-            except (Wrong, KeyError, ValueError, TypeError, IndexError) as fault:
+            except (Wrong, KeyError, ValueError, TypeError, IndexError, OverflowError, struct.error) as fault:
                 raise Wrong("%s: case %s: %s" % (case.file, case.name, fault))
             case.says = case.says or case.answer
             if not case.rules:

@@ -2,13 +2,13 @@
 -- Assumes nothing.
 use Prim.Native.Nat.{ℕ, _+_, _^_, _<_, _≤_}
 use mathlib.Core.Path.{_≡_, refl, sym, ap, subst, _∙_}
-use mathlib.Core.Bool.{Bool, true, false, _&&_, _||_}
-use mathlib.Core.List.{List, []}
+use mathlib.Core.Bool.{Bool, true, false, _&&_}
+use mathlib.Core.List.{List}
 use native.Mathlib.Omega.{arith}
 use borrow.Author.Tests.{leb-true, ltb-true, ne-eqb}
 use lib.Dec.{T, leb, ltb, eqb, lit<}
 use lib.IntN.{ℤ, pos, _-ℤ_}
-use lib.ListN.{length, take, drop, getD}
+use lib.ListN.{length, getD}
 use lib.Signed.{mag}
 use Rattle.rules.specs.Rows.{when_answer_else_}
 use Rattle.clock.specs.Clock.{centred, ageOf}
@@ -17,7 +17,7 @@ use Rattle.clock.specs.declared.Count.{Count}
 use Rattle.clock.proofs.Wrapped.{centred-range}
 use Rattle.clock.proofs.RoundTrip.{bits-there}
 use Rattle.field.specs.Row.{fieldsOf}
-use Rattle.message.specs.Read.{parsedOf, dataOf}
+use Rattle.message.specs.Read.{parsedOf}
 use Rattle.message.specs.declared.Parsed.{Parsed}
 use Rattle.connection.specs.declared.Connection.{Connection}
 use Rattle.connection.specs.declared.Settings.{Settings}
@@ -33,10 +33,10 @@ use Rattle.row_calls.specs.Answer.{answerWidths, answerNumbers, placeOf}
 use Rattle.row_calls.specs.RowCalls.{refusedRows, StoredIn, LeftIn, madeIn}
 use Rattle.row_promises.specs.Calls.{Moves, RowPromises}
 use Rattle.row_promises.proofs.Calls.{row-promises, delivered-part}
-use Rattle.true_age.specs.Clocks.{World, countOf}
+use Rattle.true_age.specs.Clocks.{countOf}
 use Rattle.true_age.specs.History.{Ours, Written}
 use Rattle.true_age.specs.Claim.{transit, trueAge, AgeClaim, HandsUp, Claim}
-use Rattle.true_age.proofs.Delivered.{hands-up}
+use Rattle.true_age.proofs.Delivered.{hands-up, delivers}
 use Rattle.true_age.proofs.Demand3.{demand-3}
 use Rattle.age_at_row.specs.Run.{RowHistory}
 use Rattle.age_at_row.specs.Claim.{placeIn, lengthIn, ageIn, Demand3AtRow}
@@ -147,8 +147,9 @@ demand-3-at-the-row W began j role settings t row log last run o u next band mes
     let a : StoredIn = madeIn Call.Receive row now message out answerRow .said in
     let r : Outcome = receiveOutcome c now message (length out) in
     let up : HandsUp c message (r .number) (r .delivered) = hands-up c now message (length out) in
-    let counted : callersFault (a .number) ≡ false → lengthIn (a .answer) ≡ (when deliversTo c (a .number) answer length (dataOf message) else 0) =
-    λ f. let x = read row now message out answerRow f in x .count ∙ rw (x .number) (up .count) in
+    let up-there : callersFault (a .number) ≡ false → HandsUp c message (a .number) (lengthIn (a .answer)) =
+    λ f. let x = read row now message out answerRow f in
+    subst (λ (k : ℕ). HandsUp c message k (lengthIn (a .answer))) (sym (x .number)) (subst (HandsUp c message (r .number)) (sym (x .count)) up) in
     let age : (first : Ours W) → Written W 0 first log → trueAge W (m .sent) u + settings .e + j + transit W first < 2 ^ 31
     → AgeClaim settings (trueAge W (m .sent) u) j (transit W first) (ageIn (a .answer)) c (a .number) =
     λ first written small. by-fault (callersFault (a .number)) refl
@@ -160,19 +161,12 @@ demand-3-at-the-row W began j role settings t row log last run o u next band mes
       same-settings = claim .same-settings;
       own = claim .own;
       age = age;
-      count = counted;
-      bytes = λ f. let x = read row now message out answerRow f in
-          rw (x .count, x .place, x .number) (delivered-part message (r .delivered) ∙ up .bytes);
-      byte-handed-up = λ first written small f some. age first written small .handed-up (delivers c (a .number) (lengthIn (a .answer)) (length (dataOf message)) (counted f) some);
+      hands-up = up-there;
+      part = λ f. let x = read row now message out answerRow f in
+          rw (x .count, x .place) (delivered-part message (r .delivered));
+      byte-handed-up = λ first written small f some. age first written small .handed-up (delivers c message (a .number) (lengthIn (a .answer)) (up-there f) some);
     }
   where
     by-fault : {P : Type 0} {x : Bool} (b : Bool) → x ≡ b → (x ≡ true → P) → (x ≡ false → P) → P
     by-fault true e f g = f e
     by-fault false e f g = g e
-
-    delivers : (c : Connection) (k n all : ℕ) → n ≡ (when deliversTo c k answer all else 0) → 0 < n → deliversTo c k ≡ true
-    delivers c k n all = go (deliversTo c k)
-      where
-        go : (b : Bool) → n ≡ (when b answer all else 0) → 0 < n → b ≡ true
-        go true e p = refl
-        go false e p = let q : ⊥ = omega arith in absurd q

@@ -10,7 +10,6 @@ use lib.IntN.{pos}
 use lib.ListN.{length}
 use Rattle.clock.proofs.Wrapped.{wrapped-lt}
 use Rattle.field.specs.Row.{Bytes}
-use Rattle.connection.specs.declared.Connection.{Connection}
 use Rattle.connection.specs.declared.Settings.{Settings}
 use Rattle.connection.specs.Connection.{opened}
 use Rattle.connection_row.specs.Row.{standsFor}
@@ -93,7 +92,7 @@ module _ (W : World) (began : W .Moment) (role : ℕ) (settings : Settings) wher
   run-history : {t : W .Moment} {row : List ℕ} {log : List (Ours W)} {last : W .Moment} → Run W began role settings t row log last → Of t row log last
   run-history (Run.begun row b first period f p t out answerRow s z) = begins row b first period f p t out answerRow s z
   run-history (Run.called x u next call g lent b out answerRow good again f) = on-it (run-history x) u next call g lent b out answerRow good again f
-  run-history (Run.refused x u next call lent out answerRow e) = nothing-done (run-history x) u next call lent out answerRow e
+  run-history (Run.refused {t} {row} x u next call lent out answerRow e) = nothing-done (run-history x) u next call lent out answerRow e
 
 pub runs-are-histories : RunsAreHistories
 runs-are-histories W began role settings t row log last x = run-history W began role settings x

@@ -2,14 +2,13 @@
 use Prim.Native.Nat.{ℕ, _+_, _^_, _<_}
 use mathlib.Core.Path.{_≡_}
 use mathlib.Core.Bool.{false}
-use mathlib.Core.List.{List, []}
+use mathlib.Core.List.{List}
 use lib.IntN.{ℤ, pos, _+ℤ_, _-ℤ_}
-use lib.ListN.{length, take, drop, getD}
+use lib.ListN.{take, drop, getD}
 use lib.Signed.{_≤ℤ_}
-use Rattle.rules.specs.Rows.{when_answer_else_}
 use Rattle.clock.specs.Clock.{centred}
 use Rattle.field.specs.Row.{fieldsOf}
-use Rattle.message.specs.Read.{parsedOf, dataOf}
+use Rattle.message.specs.Read.{parsedOf}
 use Rattle.message.specs.declared.Header.{Header}
 use Rattle.message.specs.declared.Tail.{Tail}
 use Rattle.message.specs.declared.Parsed.{Parsed}
@@ -17,12 +16,13 @@ use Rattle.connection.specs.declared.Settings.{Settings}
 use Rattle.connection.specs.Connection.{opened}
 use Rattle.connection_row.specs.Row.{standsFor}
 use Rattle.calls.specs.declared.Call.{Call}
-use Rattle.promises.specs.Promises.{callersFault, deliversTo}
+use Rattle.calls.specs.Calls.{deliveredOf}
+use Rattle.promises.specs.Promises.{callersFault}
 use Rattle.row_calls.specs.Answer.{answerWidths}
 use Rattle.row_calls.specs.RowCalls.{StoredIn, madeIn}
 use Rattle.true_age.specs.Clocks.{World, InBand, countOf}
 use Rattle.true_age.specs.History.{Ours, Written, Judged}
-use Rattle.true_age.specs.Claim.{OwnSetUp, transit, trueAge, AgeClaim}
+use Rattle.true_age.specs.Claim.{OwnSetUp, transit, trueAge, AgeClaim, HandsUp}
 use Rattle.age_at_row.specs.Run.{Run}
 
 -- ROW-7, what C reads in an answer row: where the delivered data stands in the message and how many bytes it has, and the age:
@@ -43,12 +43,10 @@ pub record ClaimAtRow (W : World) (began : W .Moment) (j role : ℕ) (settings :
   pub own : OwnSetUp W began role log last (standsFor row)
   pub age : (first : Ours W) → Written W 0 first log → trueAge W (m .sent) u + settings .e + j + transit W first < 2 ^ 31
       → AgeClaim settings (trueAge W (m .sent) u) j (transit W first) (ageIn (s .answer)) (standsFor row) (s .number)
-  -- with any answer but a caller's fault, which leaves the answer row as it was: the part of the message that is handed up
-  pub count : callersFault (s .number) ≡ false
-      → lengthIn (s .answer) ≡ (when deliversTo (standsFor row) (s .number) answer length (dataOf message) else 0)
-  pub bytes : callersFault (s .number) ≡ false
-      → take (lengthIn (s .answer)) (drop (placeIn (s .answer)) message)
-      ≡ (when deliversTo (standsFor row) (s .number) answer dataOf message else [])
+  -- with any answer but a caller's fault, which leaves the answer row as it was: how many bytes go up, and where they stand
+  pub hands-up : callersFault (s .number) ≡ false → HandsUp (standsFor row) message (s .number) (lengthIn (s .answer))
+  pub part : callersFault (s .number) ≡ false
+      → take (lengthIn (s .answer)) (drop (placeIn (s .answer)) message) ≡ deliveredOf message (lengthIn (s .answer))
   -- where a byte goes up, the message is truly no older than T_max - E + J - d
   pub byte-handed-up : (first : Ours W) → Written W 0 first log → trueAge W (m .sent) u + settings .e + j + transit W first < 2 ^ 31
       → callersFault (s .number) ≡ false → 0 < lengthIn (s .answer)

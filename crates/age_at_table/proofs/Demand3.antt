@@ -4,10 +4,8 @@ use Prim.Native.Nat.{ℕ, _+_, _^_, _<_}
 use mathlib.Core.Path.{_≡_, refl, sym, subst}
 use mathlib.Core.Bool.{Bool, true, false}
 use mathlib.Core.List.{List, []}
-use native.Mathlib.Omega.{arith}
 use lib.ListN.{length}
 use Rattle.rules.specs.Rows.{when_answer_else_}
-use Rattle.message.specs.Read.{dataOf}
 use Rattle.clock.specs.declared.Age.{Age}
 use Rattle.connection.specs.declared.Connection.{Connection}
 use Rattle.calls.specs.declared.Answer.{Answer}
@@ -19,7 +17,7 @@ use Rattle.table_promises.proofs.Promises.{promises}
 use Rattle.true_age.specs.Clocks.{countOf}
 use Rattle.true_age.specs.History.{Ours, Written}
 use Rattle.true_age.specs.Claim.{transit, trueAge, AgeClaim, HandsUp, Claim}
-use Rattle.true_age.proofs.Delivered.{other-delivers-none, hands-up}
+use Rattle.true_age.proofs.Delivered.{other-delivers-none, hands-up, delivers}
 use Rattle.true_age.proofs.Demand3.{demand-3}
 use Rattle.age_at_table.specs.Run.{SlotHistory}
 use Rattle.age_at_table.specs.Claim.{HandsUpAtTable, Demand3AtTable}
@@ -43,14 +41,6 @@ hands-up-at-the-table table slot now message out = go (badSlot (length table) sl
     go : (bad : Bool) → HandsUp (recordAt table slot) message (left bad .answer .number) (left bad .answer .delivered)
     go true = refusal-hands-up (recordAt table slot) message
     go false = hands-up (recordAt table slot) now message (length out)
-
--- bytes that go up go with a 0 or a 204 of an open record
-delivers : (c : Connection) (message : List ℕ) (k n : ℕ) → HandsUp c message k n → 0 < n → deliversTo c k ≡ true
-delivers c message k n x = go (deliversTo c k) (x .count)
-  where
-    go : (b : Bool) → n ≡ (when b answer length (dataOf message) else 0) → 0 < n → b ≡ true
-    go true e p = refl
-    go false e p = let q : ⊥ = omega arith in absurd q
 
 pub demand-3-at-the-table : Demand3AtTable
 demand-3-at-the-table W began j slot role settings t table run log last x o u next band message out h s w m =

@@ -4,9 +4,10 @@ use Prim.Native.Nat.{ℕ, _+_, _≤_}
 use mathlib.Core.List.{List, [], _∷_}
 use lib.ListN.{length, getD}
 use Rattle.field.specs.Row.{widthOf}
+use Rattle.connection_row.specs.Row.{rowSize}
 use Rattle.text.specs.Text.{mostDigits}
 use Rattle.text.specs.Line.{mostNumber, mostAge, mostBytesWord, mostWrittenWords}
-use Rattle.call_lines.specs.Record.{recordSize, mostRecordText}
+use Rattle.call_lines.specs.Record.{mostRecordText}
 use Rattle.call_lines.specs.declared.one_call.OneCall.{OneCall}
 
 -- behind the record: kind, now, room, size; the bytes follow them
@@ -15,7 +16,7 @@ callWidths = 1 ∷ 4 ∷ 2 ∷ 2 ∷ []
 
 -- how many bytes the record and these fields take
 abbrev pub callFieldsSize : ℕ
-callFieldsSize = recordSize + widthOf callWidths
+callFieldsSize = rowSize + widthOf callWidths
 
 -- the call of these fields, in this order
 abbrev pub callFrom : List ℕ → OneCall

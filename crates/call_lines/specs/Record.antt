@@ -1,13 +1,7 @@
--- A connection record in the files of calls: how many bytes it takes there, and the most text that is put for one.
+-- A connection record in the lines of calls: the most text that is put for one.
 -- Assumes nothing.
 use Prim.Native.Nat.{ℕ, _+_, _*_}
-use Rattle.field.specs.Row.{widthOf}
-use Rattle.connection_row.specs.Row.{rowWidths}
 use Rattle.text.specs.Line.{mostNumber, mostOffset}
-
--- the bytes of a record
-abbrev pub recordSize : ℕ
-recordSize = widthOf rowWidths
 
 -- the most text of T_start, T_off and the error limit
 abbrev pub mostLimitsText : ℕ

@@ -4,8 +4,9 @@ use Prim.Native.Nat.{ℕ, _+_, _*_}
 use mathlib.Core.List.{List, [], _∷_}
 use lib.ListN.{getD}
 use Rattle.field.specs.Row.{widthOf}
+use Rattle.connection_row.specs.Row.{rowSize}
 use Rattle.lent_table.specs.LentTable.{records}
-use Rattle.call_lines.specs.Record.{recordSize, mostRecordText}
+use Rattle.call_lines.specs.Record.{mostRecordText}
 use Rattle.call_lines.specs.Call.{mostAnswerText}
 use Rattle.call_lines.specs.declared.one_table.OneTable.{OneTable}
 
@@ -20,7 +21,7 @@ tableFieldsSize = widthOf tableWidths
 
 -- where the bytes behind so many records start
 abbrev pub bytesFrom : ℕ → ℕ
-bytesFrom count = tableFieldsSize + count * recordSize
+bytesFrom count = tableFieldsSize + count * rowSize
 
 -- the call of these fields, in this order
 abbrev pub tableFrom : List ℕ → OneTable

@@ -5,20 +5,20 @@ ghost use mathlib.Core.Path.{_≡_};
 ghost use Prim.Native.Nat.{_+_, _≤_};
 ghost use lib.ListN.{length};
 ghost use Rattle.field.specs.Row.{fieldsOf};
-ghost use Rattle.call_lines.specs.Record.{recordSize};
+ghost use Rattle.connection_row.specs.Row.{rowSize};
 ghost use Rattle.call_lines.specs.Call.{callWidths, callFieldsSize, callFrom, mostCallBytes, CallFits};
 ghost use Rattle.call_lines.specs.Call.{mostNumberText, mostDeliveredText, mostAnswerText, mostCallText};
 use crate::one_record;
-use crate::one_record::RECORD_SIZE;
 use calls::Answer;
 use calls::Called;
 use clock::Count;
 use connection::Connection;
+use connection_row::ROW_SIZE;
 use table::MOST_RECORDS;
 use text::Done;
 
 // The bytes of the record and of the fields before a call's own.
-const FIELDS_SIZE: usize = RECORD_SIZE + 9;
+const FIELDS_SIZE: usize = ROW_SIZE + 9;
 
 // The most bytes of a call.
 pub const MOST_BYTES: usize = 1024;
@@ -40,13 +40,13 @@ struct OneCall {
 // FIELD-2: the fields that stand behind the record at the front of s.
 fn call_from(s: &[u8]) -> OneCall
     requires { ⌜ callFieldsSize ≤ length (now s) ⌝ }
-    ensures { λ r. ⌜ r ≡ callFrom (fieldsOf callWidths (now (s .entry)) recordSize) ⌝ }
+    ensures { λ r. ⌜ r ≡ callFrom (fieldsOf callWidths (now (s .entry)) rowSize) ⌝ }
 {
     OneCall {
-        kind: field::read8(s, RECORD_SIZE),
-        now: Count(field::read32(s, RECORD_SIZE + 1)),
-        room: field::read16(s, RECORD_SIZE + 5),
-        size: field::read16(s, RECORD_SIZE + 7),
+        kind: field::read8(s, ROW_SIZE),
+        now: Count(field::read32(s, ROW_SIZE + 1)),
+        room: field::read16(s, ROW_SIZE + 5),
+        size: field::read16(s, ROW_SIZE + 7),
     }
 }
 

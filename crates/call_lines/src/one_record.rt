@@ -9,9 +9,6 @@ use connection::Own;
 use connection::Peer;
 use connection::Settings;
 
-// The bytes of a record in a file.
-pub const RECORD_SIZE: usize = 53;
-
 // T_start, T_off, the error limit.
 fn put_limits(out: &mut [u8], at: usize, settings: Settings) -> usize
     requires { ⌜ at + mostLimitsText ≤ length (now out) ⌝ }

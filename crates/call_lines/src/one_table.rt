@@ -14,9 +14,9 @@ use crate::one_call;
 use crate::one_call::MOST_BYTES;
 use crate::one_call::MOST_ROOM;
 use crate::one_record;
-use crate::one_record::RECORD_SIZE;
 use clock::Count;
 use connection::Connection;
+use connection_row::ROW_SIZE;
 use lent_table::RECORDS;
 use lent_table::Returned;
 use table::Held;
@@ -87,7 +87,7 @@ fn records_of(s: &[u8], count: usize) -> [Connection; RECORDS]
     let mut t = [Connection::all_zero(); RECORDS];
     let mut i: usize = 0;
     while i < count {
-        let at = FIELDS_SIZE + i * RECORD_SIZE;
+        let at = FIELDS_SIZE + i * ROW_SIZE;
         t[i] = connection_row::connection_from(s, at);
         i += 1;
     }
@@ -206,7 +206,7 @@ pub fn table_at(s: &[u8], out: &mut [u8]) -> Done
     if MOST_ROOM < room {
         return Done::not_whole();
     }
-    let from = FIELDS_SIZE + count * RECORD_SIZE;
+    let from = FIELDS_SIZE + count * ROW_SIZE;
     let end = from + size;
     if s.len() < end {
         return Done::not_whole();

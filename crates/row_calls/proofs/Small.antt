@@ -1,20 +1,18 @@
 -- What a call writes and delivers is no longer than a message, so that it fits the two bytes that an answer row has for it.
 -- Assumes nothing.
 use Prim.Native.Nat.{ℕ, _+_, _-_, _^_, _<_, _≤_}
-use mathlib.Core.Path.{_≡_, refl}
-use mathlib.Core.Bool.{true, not, _&&_}
+use mathlib.Core.Path.{_≡_}
+use mathlib.Core.Bool.{true, not}
 use mathlib.Core.List.{List}
 use native.Mathlib.Omega.{arith}
 use lib.Dec.{leb, eqb}
 use lib.ListN.{length}
-use Rattle.rules.specs.Rows.{when_answer_else_}
 use Rattle.clock.specs.declared.Count.{Count}
-use Rattle.message.specs.Table.{application, headerSize, mostMessage, tableOf, lists, totalOf}
+use Rattle.message.specs.Table.{application, mostMessage, tableOf, lists, totalOf}
 use Rattle.message.specs.Read.{messageHeaderOf, parsedOf}
 use Rattle.message.specs.declared.Header.{Header}
 use Rattle.message.specs.declared.Tail.{Tail}
 use Rattle.message.specs.declared.Parsed.{Parsed}
-use Rattle.message.specs.declared.Listed.{Listed}
 use Rattle.message.proofs.Rows.{every-row, at-most, and-left}
 use Rattle.message.proofs.Accepted.{accepted, accepted-data}
 use Rattle.message_writing.specs.Writing.{allowedOf, writes}
@@ -25,7 +23,6 @@ use Rattle.what_follows.specs.declared.Reply.{Reply}
 use Rattle.what_follows.specs.declared.Reply.the-variants.{Nothing, Send}
 use Rattle.what_follows.specs.declared.Outcome.{Outcome}
 use Rattle.what_follows.specs.Follows.{startTaken, answ1Taken, answ2Taken, estTaken, endTaken, dataTaken, messageTaken, refusing, raised}
-use Rattle.calls.specs.declared.Given.{Given}
 use Rattle.calls.specs.declared.Call.{Call}
 use Rattle.calls.specs.declared.Answer.{Answer}
 use Rattle.calls.specs.Calls.{
@@ -33,7 +30,6 @@ use Rattle.calls.specs.Calls.{
   sendRefusal,
   beginRefusal,
   receiveOutcome,
-  tickOutcome,
   closeOutcome,
   sendOutcome,
   beginOutcome,

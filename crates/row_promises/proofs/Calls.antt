@@ -3,9 +3,8 @@
 use Prim.Native.Nat.{ℕ, _+_, _^_, _<_}
 use mathlib.Core.Path.{_≡_, refl, sym, ap, subst, _∙_}
 use mathlib.Core.Bool.{Bool, true, false, not, _&&_, _||_}
-use mathlib.Core.List.{List, [], _∷_, _++_, append-nil}
+use mathlib.Core.List.{List, [], append-nil}
 use mathlib.Core.Logic.{_⊎_, inl, inr}
-use native.Mathlib.Omega.{arith}
 use borrow.Author.Tests.{eqb-true, eq-eqb}
 use lib.Dec.{T, ltb, leb, eqb, lit<}
 use lib.ListN.{length, take, drop}
@@ -14,13 +13,13 @@ use Rattle.rules.specs.Rows.{when_answer_else_}
 use Rattle.clock.specs.Clock.{goesBack}
 use Rattle.clock.specs.declared.Count.{Count}
 use Rattle.clock.proofs.Wrapped.{wrapped-lt}
-use Rattle.field.specs.Row.{fieldsOf, rowOf, FitsRow, Bytes}
+use Rattle.field.specs.Row.{fieldsOf, rowOf, Bytes}
 use Rattle.field.proofs.Row.{fields-of-row}
 use Rattle.message.specs.Table.{offsetStart, offsetAnsw1, offsetAnsw2, offsetEst, offsetEnd, headerSize, startSize, estSize, mostData}
 use Rattle.message.specs.declared.Header.{Header}
 use Rattle.message.specs.declared.Tail.{Tail}
 use Rattle.connection.specs.declared.Connection.{Connection}
-use Rattle.connection.specs.Connection.{closed, opened, outOfRange, unsound, allZero, clocked, heard}
+use Rattle.connection.specs.Connection.{closed, opened, outOfRange, allZero, clocked, heard}
 use Rattle.what_follows.specs.declared.Reply.{Reply}
 use Rattle.what_follows.specs.declared.Outcome.{Outcome}
 use Rattle.what_follows.specs.Follows.{startTaken, answ1Taken, answ2Taken, estTaken, endTaken, dataTaken, messageTaken, refusing, raised}
@@ -35,8 +34,6 @@ use Rattle.calls.specs.Calls.{
   receiveRefusal,
   sendRefusal,
   beginRefusal,
-  receiveOutcome,
-  tickOutcome,
   closeOutcome,
   sendOutcome,
   beginOutcome,
@@ -58,9 +55,9 @@ use Rattle.row_calls.specs.Answer.{answerWidths, answerNumbers, answerBytes, pl
 use Rattle.row_calls.specs.RowCalls.{refusedRows, StoredIn, stored, storedIn, LeftIn, leavesIn, madeIn}
 use Rattle.row_calls.proofs.Small.{Small, answer-small}
 use Rattle.row_calls.proofs.Leaves.{accepted-row, not-stored, both-stored}
-use Rattle.row_promises.specs.Rows.{Ranges, Storable}
+use Rattle.row_promises.specs.Rows.{Storable}
 use Rattle.row_promises.specs.Calls.{Passed, rowNumbers, NothingChanges, Moves, RowPromises, DeliveredPart}
-use Rattle.row_promises.proofs.Rows.{row-is-bytes, stands-for, ranges-of, valid-of, valid-accepted, not-closed}
+use Rattle.row_promises.proofs.Rows.{row-is-bytes, stands-for, ranges-of, valid-of, valid-accepted}
 use Rattle.row_promises.proofs.Ranges.{Keeps, call-keeps}
 
 -- ---- the record that a call leaves may be stored

@@ -1,30 +1,27 @@
 -- A call leaves a record of machine numbers, given one; and where it is closed it is the record from before, or all zero.
 -- Assumes nothing.
-use Prim.Native.Nat.{ℕ, _+_, _^_, _<_, _≤_}
+use Prim.Native.Nat.{ℕ, _+_, _^_, _<_}
 use mathlib.Core.Path.{_≡_, refl, sym, subst}
-use mathlib.Core.Bool.{Bool, true, false, not, _||_}
+use mathlib.Core.Bool.{false, not, _||_}
 use mathlib.Core.List.{List}
 use mathlib.Core.Logic.{_⊎_, inl, inr}
 use native.Mathlib.Omega.{arith}
 use borrow.Author.Tests.{leb-false}
 use lib.Dec.{ltb, leb, eqb, lit<}
 use lib.ListN.{length}
-use Rattle.rules.specs.Rows.{when_answer_else_}
 use Rattle.clock.specs.declared.Count.{Count}
 use Rattle.clock.proofs.Wrapped.{centred-range}
 use Rattle.number.proofs.Following.{next-fits}
 use Rattle.field.specs.Row.{Bytes}
 use Rattle.field.proofs.Field.{field-fits}
 use Rattle.message.specs.Table.{offsetStart, offsetAnsw1, offsetAnsw2, offsetEst, offsetEnd}
-use Rattle.message.specs.Read.{messageHeaderOf, parsedOf}
+use Rattle.message.specs.Read.{parsedOf}
 use Rattle.message.specs.declared.Header.{Header}
 use Rattle.message.specs.declared.Tail.{Tail}
 use Rattle.message.specs.declared.Parsed.{Parsed}
 use Rattle.message.proofs.Accepted.{accepted}
-use Rattle.connection.specs.declared.Own.{Own}
-use Rattle.connection.specs.declared.Settings.{Settings}
 use Rattle.connection.specs.declared.Connection.{Connection}
-use Rattle.connection.specs.Connection.{closed, initiatorWaitsFor2, responderWaitsFor1, outOfRange, allZero, clocked, counted, heard, heardOf, sent, oneMore, begun}
+use Rattle.connection.specs.Connection.{closed, outOfRange, allZero, clocked, counted, heard, heardOf, sent, oneMore}
 use Rattle.connection.proofs.Ranges.{or-off, in-range}
 use Rattle.what_follows.specs.declared.Outcome.{Outcome}
 use Rattle.what_follows.specs.Follows.{startTaken, answ1Taken, answ2Taken, estTaken, endTaken, dataTaken, messageTaken, refusing, raised}
@@ -48,7 +45,7 @@ use Rattle.calls.specs.Calls.{
 }
 use Rattle.calls.proofs.Replies.{both, none-refused, row-off, then-off}
 use Rattle.promises.proofs.Promises.{Ageless, Ways, receive-by, tick-by}
-use Rattle.row_promises.specs.Rows.{SettingsRanges, OwnRanges, PeerRanges, OffsetsRanges, Ranges}
+use Rattle.row_promises.specs.Rows.{SettingsRanges, OwnRanges, PeerRanges, Ranges}
 use Rattle.row_promises.specs.Calls.{GivenRanges}
 use Rattle.row_promises.proofs.Rows.{zero-ranges}
 

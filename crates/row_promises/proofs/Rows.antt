@@ -1,12 +1,12 @@
 -- Rows there and back: what is written is read, what is read is written, and exactly the rows of valid connections are accepted.
 -- Assumes nothing.
-use Prim.Native.Nat.{ℕ, zero, suc, _+_, _*_, _^_, _<_, _≤_}
+use Prim.Native.Nat.{ℕ, zero, suc, _+_, _<_, _≤_}
 use mathlib.Core.Path.{_≡_, refl, sym, ap, ap₂, subst, _∙_}
 use mathlib.Core.Bool.{Bool, true, false, not, _&&_, _||_}
-use mathlib.Core.List.{List, [], _∷_, _++_, append-nil}
-use mathlib.Core.Logic.{_⊎_, inl, inr, ⊎-elim}
+use mathlib.Core.List.{List, [], _∷_, append-nil}
+use mathlib.Core.Logic.{inl, inr}
 use native.Mathlib.Omega.{arith}
-use borrow.Author.Tests.{eqb-true, eqb-false, eq-eqb, ne-eqb, ltb-true, ltb-false, not-false}
+use borrow.Author.Tests.{eqb-true, eqb-false, eq-eqb, ne-eqb, ltb-false, not-false}
 use lib.Dec.{T, ltb, leb, eqb, lit<}
 use lib.ListN.{length, take, drop, getD}
 use lib.Seq.{sets, sets-eq, take-all, take-at}
@@ -17,7 +17,7 @@ use Rattle.clock.specs.Clock.{wrapped, centred}
 use Rattle.clock.proofs.Wrapped.{wrapped-lt, centred-range}
 use Rattle.clock.proofs.RoundTrip.{bits-there, bits-back}
 use Rattle.field.specs.Field.{fieldOf, bytesOf}
-use Rattle.field.specs.Row.{fieldsOf, rowOf, widthOf, FitsRow, Bytes}
+use Rattle.field.specs.Row.{fieldsOf, rowOf, FitsRow, Bytes}
 use Rattle.field.proofs.Row.{bytes-row, fields-fit, fields-of-row, row-of-fields}
 use Rattle.message.proofs.Rows.{and-left, and-right}
 use Rattle.connection.specs.declared.Connection.{Connection}
@@ -30,7 +30,7 @@ use Rattle.connection_row.proofs.Accepts.{read-accepted}
 use Rattle.connection_row.proofs.Writes.{row-size}
 use Rattle.calls.proofs.Replies.{row-off}
 use Rattle.row_calls.proofs.Fields.{numbers-back}
-use Rattle.row_promises.specs.Rows.{Ranges, Storable, WrittenReadsBack, ReadWritesBack, RowOfValid, AcceptsExactly, WritesExactly, NumbersAre}
+use Rattle.row_promises.specs.Rows.{Ranges, Storable, WrittenReadsBack, ReadWritesBack, AcceptsExactly, WritesExactly, NumbersAre}
 
 -- ---- numbers and records
 

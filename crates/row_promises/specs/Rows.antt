@@ -2,9 +2,9 @@
 use Prim.Native.Nat.{ℕ, _^_, _<_}
 use mathlib.Core.Path.{_≡_}
 use mathlib.Core.Bool.{true, false}
-use mathlib.Core.List.{List, _++_}
+use mathlib.Core.List.{List}
 use mathlib.Core.Logic.{_⊎_}
-use lib.ListN.{take, drop}
+use lib.ListN.{take}
 use lib.Signed.{mag}
 use Rattle.field.specs.Row.{fieldsOf, rowOf, Bytes}
 use Rattle.connection.specs.declared.Settings.{Settings}

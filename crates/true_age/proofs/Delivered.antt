@@ -1,9 +1,10 @@
 -- How many bytes a receive delivers: all of the message's from 15 on with a 0 or a 204 of an open record, none with any other answer.
 -- Assumes nothing.
-use Prim.Native.Nat.{ℕ, _+_}
+use Prim.Native.Nat.{ℕ, _+_, _<_}
 use mathlib.Core.Path.{_≡_, refl, sym, _∙_}
 use mathlib.Core.Bool.{Bool, true, false, _&&_, _||_}
 use mathlib.Core.List.{List}
+use native.Mathlib.Omega.{arith}
 use borrow.Author.Tests.{not-true}
 use lib.Dec.{leb, eqb}
 use lib.ListN.{length, length-drop}
@@ -98,3 +99,11 @@ module _ (c : Connection) (now : Count) (message : List ℕ) where
 
   pub hands-up : (room : ℕ) → HandsUp c message (receiveOutcome c now message room .number) (receiveOutcome c now message room .delivered)
   hands-up room = record { count = counted room; bytes = delivers-bytes-from-15 c now message room }
+
+-- bytes that go up go with a 0 or a 204 of an open record
+pub delivers : (c : Connection) (message : List ℕ) (k n : ℕ) → HandsUp c message k n → 0 < n → deliversTo c k ≡ true
+delivers c message k n x = go (deliversTo c k) (x .count)
+  where
+    go : (b : Bool) → n ≡ (when b answer length (dataOf message) else 0) → 0 < n → b ≡ true
+    go true e p = refl
+    go false e p = let q : ⊥ = omega arith in absurd q

@@ -1,5 +1,5 @@
 -- `connection_row::store_row` meets its contract. Assumes nothing.
-use mathlib.Core.Path.{sym}
+
 use native.Mathlib.Omega.{arith}
 use borrow.Author.Tests.{eqb-true}
 use Rattle.connection_row.specs.Stored.{rowRefusal}

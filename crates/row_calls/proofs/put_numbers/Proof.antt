@@ -8,7 +8,7 @@ use lib.Seq.{sets, take-all}
 use Rattle.field.specs.Row.{fieldsOf, widthOf}
 use Rattle.connection_row.specs.Row.{rowWidths}
 use Rattle.row_calls.specs.Numbers.{fieldCount}
-use Rattle.row_calls.proofs.Fields.{Field, field-of, read-next, length-fields}
+use Rattle.row_calls.proofs.Fields.{field-of, read-next, length-fields}
 use Rattle.row_calls.proofs.put_numbers.Statement.{statement}
 use Rattle.row_calls.proofs.put_numbers.Tie as tie
 
