@@ -1,12 +1,12 @@
 -- Rows there and back: what is written is read, what is read is written, and exactly the rows of valid connections are accepted.
 -- Assumes nothing.
-use Prim.Native.Nat.{ℕ, zero, suc, _+_, _<_, _≤_}
+use Prim.Native.Nat.{ℕ, zero, suc, _+_, _^_, _<_, _≤_}
 use mathlib.Core.Path.{_≡_, refl, sym, ap, ap₂, subst, _∙_}
 use mathlib.Core.Bool.{Bool, true, false, not, _&&_, _||_}
 use mathlib.Core.List.{List, [], _∷_, append-nil}
 use mathlib.Core.Logic.{inl, inr}
 use native.Mathlib.Omega.{arith}
-use borrow.Author.Tests.{eqb-true, eqb-false, eq-eqb, ne-eqb, ltb-false, not-false}
+use borrow.Author.Tests.{eqb-true, eqb-false, eq-eqb, ne-eqb, lt-ltb, le-ltb, ltb-false, not-false}
 use lib.Dec.{T, ltb, leb, eqb, lit<}
 use lib.ListN.{length, take, drop, getD}
 use lib.Seq.{sets, sets-eq, take-all, take-at}
@@ -29,8 +29,9 @@ use Rattle.connection_row.specs.Stored.{zeros, rowRefusal, rowRead, Wrote, wrot
 use Rattle.connection_row.proofs.Accepts.{read-accepted}
 use Rattle.connection_row.proofs.Writes.{row-size}
 use Rattle.calls.proofs.Replies.{row-off}
-use Rattle.row_calls.proofs.Fields.{numbers-back}
-use Rattle.row_promises.specs.Rows.{Ranges, Storable, WrittenReadsBack, ReadWritesBack, AcceptsExactly, WritesExactly, NumbersAre}
+use Rattle.row_calls.specs.Numbers.{fieldCount, fits, fieldsRead, fieldsWritten}
+use Rattle.row_calls.proofs.Fields.{length-fields, numbers-back}
+use Rattle.row_promises.specs.Rows.{Ranges, Storable, WrittenReadsBack, ReadWritesBack, AcceptsExactly, WritesExactly, NumbersAre, NumbersBack}
 
 -- ---- numbers and records
 
@@ -258,16 +259,15 @@ module _ (row out : List ℕ) where
       go true false p q e = (eqb-true (rowRefusal row) 0 p, ltb-false (length out) rowSize q, refl)
       go false b p q e = absurd (eqb-false (rowRefusal row) 0 p e)
 
-  -- it stands at the start of what was lent
-  at-the-start : length row ≡ rowSize → rowSize ≤ length out → take rowSize (sets out 0 row) ≡ row
-  at-the-start e l =
-      ap (take rowSize) (sets-eq row out 0 (omega arith)) ∙ take-at row (drop (0 + length row) out) rowSize e
+-- the first of a buffer are what was stored there
+first-of : (n : ℕ) (vs out : List ℕ) → length vs ≡ n → n ≤ length out → take n (sets out 0 vs) ≡ vs
+first-of n vs out e l = ap (take n) (sets-eq vs out 0 (omega arith)) ∙ take-at vs (drop (0 + length vs) out) n e
 
 pub written-reads-back : WrittenReadsBack
 written-reads-back c out r e =
     let x = was-stored (rowBytes c) out e in
     ap (λ (l : List ℕ). rowRead (take rowSize l)) (x .2)
-    ∙ ap rowRead (at-the-start (rowBytes c) out (row-size c) (x .1))
+    ∙ ap rowRead (first-of rowSize (rowBytes c) out (row-size c) (x .1))
     ∙ is-read (rowBytes c) (x .0)
     ∙ ap RowRead.Is (stands-for c r)
 
@@ -304,4 +304,82 @@ numbers-are =
           let row : List ℕ = rowOf rowWidths fields in
           let same : fieldsOf rowWidths row 0 ≡ fields = numbers-back fields e in
           ap (rowOf rowWidths) (sym (ap (λ (l : List ℕ). numbersOf (connectionFrom l)) (sym same) ∙ numbers-of-fields row (bytes-row rowWidths fields) ∙ same));
+    }
+
+-- ---- numbers that C writes and reads
+
+module _ (fields row : List ℕ) where
+  abbrev writtenBy : Bool → Wrote
+  writtenBy f = when not f answer wrote 109 row else rowStored (rowBytes (connectionFrom fields)) row
+
+  -- numbers that were written fit
+  numbers-fitted : fieldsWritten fields row .number ≡ 0
+      → (fits rowWidths fields ≡ true) × (fieldsWritten fields row ≡ rowStored (rowBytes (connectionFrom fields)) row)
+  unfolding fieldsWritten
+  numbers-fitted = go (fits rowWidths fields)
+    where
+      go : (f : Bool) → writtenBy f .number ≡ 0 → (f ≡ true) × (writtenBy f ≡ rowStored (rowBytes (connectionFrom fields)) row)
+      go true e = (refl, refl)
+      go false e = let z : ⊥ = omega arith in absurd z
+
+module _ (row out : List ℕ) where
+  abbrev readBy : Bool → Bool → Wrote
+  readBy a b =
+      when not a answer wrote (rowRefusal row) out else
+      when b answer wrote 108 out else
+      wrote 0 (sets out 0 (fieldsOf rowWidths row 0))
+
+  -- numbers that were read
+  numbers-read : fieldsRead row out .number ≡ 0
+      → (rowRefusal row ≡ 0) × (fieldCount ≤ length out) × (fieldsRead row out .lent ≡ sets out 0 (fieldsOf rowWidths row 0))
+  unfolding fieldsRead
+  numbers-read = go (eqb (rowRefusal row) 0) (ltb (length out) fieldCount) refl refl
+    where
+      go : (a b : Bool) → eqb (rowRefusal row) 0 ≡ a → ltb (length out) fieldCount ≡ b
+          → readBy a b .number ≡ 0 → (rowRefusal row ≡ 0) × (fieldCount ≤ length out) × (readBy a b .lent ≡ sets out 0 (fieldsOf rowWidths row 0))
+      go true true p q e = let z : ⊥ = omega arith in absurd z
+      go true false p q e = (eqb-true (rowRefusal row) 0 p, ltb-false (length out) fieldCount q, refl)
+      go false b p q e = absurd (eqb-false (rowRefusal row) 0 p e)
+
+  -- and are, where the row is accepted and there is room
+  reads-numbers : rowRefusal row ≡ 0 → fieldCount ≤ length out → fieldsRead row out ≡ wrote 0 (sets out 0 (fieldsOf rowWidths row 0))
+  unfolding fieldsRead
+  reads-numbers e l = rw (e, le-ltb (length out) fieldCount l) refl
+
+-- fields that fit their widths, as a test
+row-fits : (ws xs : List ℕ) → FitsRow ws xs → fits ws xs ≡ true
+unfolding fits
+row-fits [] [] f = refl
+row-fits [] (x ∷ xs) f = absurd f
+row-fits (w ∷ ws) [] f = absurd f
+row-fits (w ∷ ws) (x ∷ xs) f = rw (lt-ltb x (256 ^ w) (f .0), row-fits ws xs (f .1)) refl
+
+-- numbers that fit are written as the record that they make
+writes-fields : (fields row : List ℕ) → fits rowWidths fields ≡ true → fieldsWritten fields row ≡ rowStored (rowBytes (connectionFrom fields)) row
+unfolding fieldsWritten
+writes-fields fields row e = rw e refl
+
+pub numbers-back-and-forth : NumbersBack
+unfolding standsFor
+numbers-back-and-forth =
+    record {
+      written-read = λ fields row out e l.
+          let w = numbers-fitted fields row e in
+          let c : Connection = connectionFrom fields in
+          let same : rowBytes c ≡ rowOf rowWidths fields = sym (numbers-are .written fields (w .0)) in
+          let x = was-stored (rowBytes c) row (sym (ap (λ (o : Wrote). o .number) (w .1)) ∙ e) in
+          let front : take rowSize (fieldsWritten fields row .lent) ≡ rowOf rowWidths fields =
+          ap (λ (o : Wrote). take rowSize (o .lent)) (w .1) ∙ ap (take rowSize) (x .2) ∙ first-of rowSize (rowBytes c) row (row-size c) (x .1) ∙ same in
+          let accepted-there : rowRefusal (rowOf rowWidths fields) ≡ 0 = subst (λ (r : List ℕ). rowRefusal r ≡ 0) same (x .0) in
+          ap (λ (r : List ℕ). fieldsRead r out) front
+          ∙ reads-numbers (rowOf rowWidths fields) out accepted-there l
+          ∙ ap (λ (xs : List ℕ). wrote 0 (sets out 0 xs)) (numbers-back fields (w .0));
+      read-written = λ row out other b e.
+          let x = numbers-read row out e in
+          let fields : List ℕ = fieldsOf rowWidths row 0 in
+          let front : take fieldCount (fieldsRead row out .lent) ≡ fields =
+          ap (take fieldCount) (x .2) ∙ first-of fieldCount fields out (length-fields rowWidths row 0) (x .1) in
+          ap (λ (xs : List ℕ). fieldsWritten xs other) front
+          ∙ writes-fields fields other (row-fits rowWidths fields (fields-fit rowWidths row 0 b))
+          ∙ ap (λ (r : List ℕ). rowStored r other) (row-of-its-record row b (accepted row (x .0) .size));
     }

@@ -1,10 +1,11 @@
 -- ROW-11: what is written and read back, of rows: each row that is accepted stands for one record, and each record has one row.
-use Prim.Native.Nat.{ℕ, _^_, _<_}
+use Prim.Native.Nat.{ℕ, _^_, _<_, _≤_}
 use mathlib.Core.Path.{_≡_}
 use mathlib.Core.Bool.{true, false}
 use mathlib.Core.List.{List}
 use mathlib.Core.Logic.{_⊎_}
-use lib.ListN.{take}
+use lib.ListN.{length, take}
+use lib.Seq.{sets}
 use lib.Signed.{mag}
 use Rattle.field.specs.Row.{fieldsOf, rowOf, Bytes}
 use Rattle.connection.specs.declared.Settings.{Settings}
@@ -15,8 +16,8 @@ use Rattle.connection.specs.declared.Connection.{Connection}
 use Rattle.connection.specs.Connection.{unsound, allZero}
 use Rattle.connection_row.specs.declared.RowRead.{RowRead}
 use Rattle.connection_row.specs.Row.{rowWidths, rowSize, connectionFrom, standsFor, numbersOf, rowBytes}
-use Rattle.connection_row.specs.Stored.{rowRefusal, rowRead, rowWritten}
-use Rattle.row_calls.specs.Numbers.{fits}
+use Rattle.connection_row.specs.Stored.{rowRefusal, rowRead, wrote, rowStored, rowWritten}
+use Rattle.row_calls.specs.Numbers.{fieldCount, fits, fieldsRead, fieldsWritten}
 
 -- ROW-11: what a record of machine numbers holds, u8, u16, u32, and i32 for an offset; its parts:
 pub record SettingsRanges (s : Settings) : Type 0 where
@@ -86,3 +87,11 @@ pub record WritesExactly (c : Connection) : Type 0 where
 pub record NumbersAre : Type 0 where
   pub read : (row : List ℕ) → Bytes row → rowRefusal row ≡ 0 → fieldsOf rowWidths row 0 ≡ numbersOf (standsFor row)
   pub written : (fields : List ℕ) → fits rowWidths fields ≡ true → rowOf rowWidths fields ≡ rowBytes (connectionFrom fields)
+
+-- ROW-9, ROW-10, ROW-11, from C: numbers that were written as a row are read from it again, and a row that was read as numbers is written
+-- from them again
+pub record NumbersBack : Type 0 where
+  pub written-read : (fields row out : List ℕ) → fieldsWritten fields row .number ≡ 0 → fieldCount ≤ length out
+      → fieldsRead (take rowSize (fieldsWritten fields row .lent)) out ≡ wrote 0 (sets out 0 fields)
+  pub read-written : (row out other : List ℕ) → Bytes row → fieldsRead row out .number ≡ 0
+      → fieldsWritten (take fieldCount (fieldsRead row out .lent)) other ≡ rowStored row other
