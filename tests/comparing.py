@@ -4,13 +4,13 @@ import collections
 import contextlib
 import hashlib
 import os
-import shutil
 import subprocess
 import sys
 import tempfile
 
-ROOT = os.path.realpath(os.path.join(os.path.dirname(os.path.abspath(__file__)), ".."))
-RUN = os.path.join(ROOT, "tests", "run-program")
+from building import ROOT
+
+RUN, BUILD = (os.path.join(ROOT, "tests", name) for name in ("run-program", "build-program"))
 # What `single` and the independent program read inputs of, and the lines that both print for one.
 LINES = {"steps": 6, "packets": 1, "messages": 1, "writes": 1, "calls": 1, "tables": 1}
 # So many characters of a line are shown before and behind a difference.
@@ -42,11 +42,17 @@ def proved(name, words, given=b""):
     return must([RUN, name] + words, given)
 
 
+def verdict_of(words, status, given=b""):
+    """What a program that checks recorder files prints, and what it says on standard error; with this status where it says something, else with 0."""
+    done = run(words, given)
+    if done.returncode != (status if done.stderr else 0):
+        fail("%s: status %d, prints %r, says %r" % (" ".join(words), done.returncode, done.stdout[:100], done.stderr[:500]))
+    return done.stdout, done.stderr
+
+
 def emulator():
-    """The words that come before an x86-64 program's own: on another processor the toolchain's emulator, as tests/run-program has it."""
-    kit = os.environ.get("RATTLE_HOME") or os.path.dirname(os.path.dirname(os.path.realpath(shutil.which("rt"))))
-    path = os.path.join(kit, "on", os.uname().machine, "toolchain", "bin", "qemu-x86_64")
-    return [path] if os.access(path, os.X_OK) else []
+    """The words that come before an x86-64 program's own: on another processor the emulator, as tests/run-program has it."""
+    return [] if os.uname().machine == "x86_64" else ["qemu-x86_64"]
 
 
 def number(given):
@@ -187,6 +193,6 @@ class Programs:
 @contextlib.contextmanager
 def programs(*names):
     """Proves and builds these programs, builds the independent one, and lends both with a folder."""
-    must(["rt", "check"] + list(names))
+    must([BUILD] + list(names))
     with tempfile.TemporaryDirectory() as folder:
         yield Programs(folder)

@@ -1,5 +1,5 @@
-# Holds include/zorakunju.h against the library's source and against the tables of the tests: functions and parameters, answers, places, widths, ranges and
-# numbers.
+# Holds include/zorakunju.h against the source of what is exported, and against the tables of the tests: functions and parameters, answers, places,
+# widths, ranges and numbers.
 import re
 
 from answers import OF_ROWS, OPEN, PHASES
@@ -8,7 +8,7 @@ from reading import functions_of
 from rows import RANGES
 from sheet import FIELDS
 
-HEADER, SOURCE = "include/zorakunju.h", "crates/row_calls/src/lib.rt"
+HEADER, SOURCE = "include/zorakunju.h", "crates/row_calls_c/src/lib.rt"
 C_TYPES = {"u8": "uint8_t", "u16": "uint16_t", "u32": "uint32_t"}
 # A field that the header calls otherwise; the answer row's fields, with their widths.
 FIELD_NAMES = {"last number": "peer number"}

@@ -1,12 +1,12 @@
 # The hosts in C: each is compiled with all warnings as errors, linked with the static library, and run; for tests/check-c and tests/check-sheet.
 import os
-import shutil
 
+from building import is_new
 from comparing import ROOT, emulator, must
 
 WARNINGS = "-std=c99 -Wall -Wextra -Wpedantic -Wconversion -Wshadow -Wstrict-prototypes -Wmissing-prototypes -Werror -O2".split()
 HOSTS = {"two_boxes": "examples/two_boxes.c", "replay": "examples/replay.c", "rows": "tests/rows.c"}
-LIBRARY, MAKER, CRATE = "target/libzorakunju.a", "tools/static-library", "row_calls"
+LIBRARY, MAKER, CRATE = "target/libzorakunju.a", "tools/static-library", "row_calls_c"
 
 
 class Hosts:
@@ -33,19 +33,7 @@ def x86_hosts(both, names=tuple(HOSTS)):
     return Hosts(both, "x86-64", compiler, ["-static"], LIBRARY, emulator(), names)
 
 
-def sources():
-    """What the library is made from: the toolchain, the list of crates, and of its crate and those that this needs every file and folder."""
-    with open(os.path.join(ROOT, "crates.txt")) as listed:
-        needs = next(line.split(":")[1].split() for line in listed if line.startswith(CRATE + ":"))
-    yield from (os.path.realpath(shutil.which("rt")), os.path.join(ROOT, "crates.txt"), os.path.join(ROOT, MAKER))
-    for crate in [CRATE] + needs:
-        for place, _, names in os.walk(os.path.join(ROOT, "crates", crate)):
-            yield from [place] + [os.path.join(place, name) for name in names]
-
-
 def make_library():
     """Makes the library, unless it is newer than all that it is made from: making it proves its crates, which tests/check-c has just done in the gate."""
-    made = os.path.join(ROOT, LIBRARY)
-    # A source's time is that of its last change of any kind, which no tool sets back: that of its contents may be old after a move or a copy.
-    if not os.path.exists(made) or os.stat(made).st_mtime <= max(os.stat(path).st_ctime for path in sources()):
+    if not is_new(os.path.join(ROOT, LIBRARY), CRATE, os.path.join(ROOT, MAKER)):
         must([MAKER])

@@ -82,9 +82,24 @@ def lent_to_write(f):
     return re.findall(r"(\w+): &(?:'\w+ )?mut\b", f.head.split("requires")[0].split("ensures")[0])
 
 
-# What its contract says at exit.
+# The clauses of its contract in order: whether each is a `requires` or an `ensures`, and what stands between its braces.
+def clauses(f):
+    for found in re.finditer(r"^\s*(requires|ensures)\*?(?: \w+)? \{", f.head, re.M):
+        depth, end = 1, found.end()
+        while depth:
+            depth += {"{": 1, "}": -1}.get(f.head[end], 0)
+            end += 1
+        yield found[1], f.head[found.end():end - 1].strip()
+
+
+# What its contract asks, clause by clause.
+def required(f):
+    return [text for kind, text in clauses(f) if kind == "requires"]
+
+
+# What its contract says, with what it asks; nothing where it says nothing of what is left.
 def ensured(f):
-    return "".join(re.split(r"\b(requires|ensures)\b", f.head)[2::2]) if "ensures" in f.head else ""
+    return "\n".join(text for _, text in clauses(f)) if any(kind == "ensures" for kind, _ in clauses(f)) else ""
 
 
 # The names that a file of definitions or proofs gives: definitions, theorems, records and their fields, types and their cases.

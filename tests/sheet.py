@@ -7,7 +7,7 @@ import struct
 from answers import AGED, CALLS, OPEN, PHASES, ROW_CALLS
 
 CASES = os.path.join(os.path.dirname(os.path.abspath(__file__)), "cases")
-FILES = ["links.cases", "packets.cases", "messages.cases", "calls.cases", "rows.cases", "traces.cases", "sample.trace"]
+FILES = ["links.cases", "packets.cases", "messages.cases", "calls.cases", "rows.cases", "traces.cases", "sample.trace", "recordings.cases"]
 KINDS = {name: number for number, name in CALLS.items()}
 MESSAGES = {1: "OffsetStart", 2: "OffsetAnsw1", 3: "OffsetAnsw2", 4: "OffsetEst", 5: "OffsetEnd", 6: "application"}
 # A packet's fields before its user data.
@@ -480,6 +480,11 @@ def read_row_call(case, records):
 
 # Traces.
 
+# A record of a trace or a recorder file: its header, and the bytes that it holds.
+def record_bytes(kind, slot, now, bytes_):
+    return bytes_of(MARK) + bytes([kind, int(slot)]) + big_endian(int(now), 4) + big_endian(len(bytes_), 2) + bytes_
+
+
 # One record of a trace: its bytes, and the line that is printed. An age that is not said is 0.
 def trace_record(case, item):
     found = re.fullmatch(r"(\w+)(?: slot ([0-9]+))?(?: now ([0-9]+))?(?:: (.*?))? ([-=]>) (\w+)(?:, age (%s))?" % AGE, item.text)
@@ -490,13 +495,13 @@ def trace_record(case, item):
         raise Wrong("%s: this answer reports no age, and yet one is said" % item.text)
     bytes_ = given_bytes(case, item, settings)
     if kind != "bytes":
-        bytes_ = bytes_of(MARK) + bytes([KINDS[kind], int(slot)]) + big_endian(int(now), 4) + big_endian(len(bytes_), 2) + bytes_
+        bytes_ = record_bytes(KINDS[kind], slot, now, bytes_)
     return bytes_, answer if answer == "bad" else "%s %s %s" % (slot, answer, age or "0"), kind, arrow == "=>", answer
 
 
 def items_after(case, histories, phases):
     item, name = item_of(case, "after:", False)
-    own = [other for other in case.items if other is not item and not other.text.startswith(("phase:", "output:"))]
+    own = [other for other in case.items if other is not item and not other.text.startswith(("phase:", "output:", "=>", "says:"))]
     if not item:
         return own, None
     if name not in histories:
@@ -530,6 +535,49 @@ def read_trace(case, histories):
         case.triple = about[0][0], phase, case.answer
 
 
+# Recorder files.
+
+# The kind of a record that holds a call's answer; its fields, behind which stand the bytes that the call wrote.
+RECORDED, RECORDED_FIELDS = 6, struct.Struct(">HBi")
+# What marks a line of standard error, so that it can't pass for one of standard output.
+SAID = "standard error: "
+
+
+# The fields of a recorded answer, from `NUMBER, released BYTE, age AGE`.
+def recorded_fields(text):
+    found = re.fullmatch(r"([0-9]+), released ([0-9]+), age (%s)" % AGE, text)
+    if not found:
+        raise Wrong("%s: not a recorded answer" % text)
+    return RECORDED_FIELDS.pack(*map(int, found.groups()))
+
+
+# One record of a recorder file: a call, the answer to one, or bytes as they are.
+def recorder_bytes(case, item):
+    if item.text == "bytes":
+        return joined(hex_of(item))
+    found = re.fullmatch(r"(\w+) slot ([0-9]+) now ([0-9]+)(?:: (.*))?", item.text)
+    if not found:
+        raise Wrong("%s: not a record of a recorder file" % item.text)
+    kind, slot, now, words = found.groups()
+    if kind == "answer":
+        return record_bytes(RECORDED, slot, now, recorded_fields(words) + given_bytes(case, item, None))
+    return record_bytes(KINDS[kind], slot, now, given_bytes(case, item, words))
+
+
+# A line of standard error. The bytes written may stand there in parts, of which `5A*985` is 985 times that byte.
+def said_line(text):
+    before, word, written = text.partition(" written ")
+    return before + word + "".join(re.sub(r"^(..)\*([0-9]+)$", lambda found: found[1] * int(found[2]), part) for part in written.split(" "))
+
+
+def read_recording(case, histories):
+    items, _ = items_after(case, histories, {})
+    case.kind = "checker"
+    case.given = b"".join(recorder_bytes(case, item) for item in items)
+    case.answer = item_of(case, "=>")[1]
+    case.wanted = [case.answer] + [SAID + said_line(item.text.removeprefix("says: ")) for item in case.items if item.text.startswith("says: ")]
+
+
 # The words that a line of a case may begin with.
 WORDS = {
     "links.cases": ("before:", "ours:", "callers:", "normal", "redundant", "cut:", "after:", "->", "=>"),
@@ -538,6 +586,7 @@ WORDS = {
     "calls.cases": ("record:", "call:", "writes:", "delivers:", "age:", "after:", "=>"),
     "rows.cases": ("row:", "call:", "writes:", "answer row:", "reads:", "after:", "=>"),
     "traces.cases": ("after:", "phase:", "output:", "bytes ") + tuple(name + " " for name in KINDS),
+    "recordings.cases": ("after:", "=>", "says: ", "bytes", "answer ") + tuple(name + " " for name in KINDS),
 }
 WORDS["sample.trace"] = WORDS["traces.cases"]
 
@@ -556,6 +605,8 @@ def read(case, file, named):
         return read_call(case, records_of(named.get("record", {})))
     if file == "rows.cases":
         return read_row_call(case, records_of(named.get("record", {})))
+    if file == "recordings.cases":
+        return read_recording(case, named.get("history", {}))
     return read_trace(case, named.get("history", {}))
 
 

@@ -3,6 +3,7 @@
 mod annex;
 mod callers;
 mod calls;
+mod checker;
 mod connection;
 mod craft;
 mod given;
@@ -12,6 +13,7 @@ mod messages;
 mod packet;
 mod packets;
 mod random;
+mod recorder;
 mod replay;
 mod rowcalls;
 mod rows;
@@ -23,6 +25,7 @@ mod traces;
 mod writes;
 
 use links::{Known, Role};
+use std::fs::File;
 use std::io::{self, BufWriter, Read, Write};
 use std::path::Path;
 use std::process::ExitCode;
@@ -30,6 +33,8 @@ use std::process::ExitCode;
 const USAGE: &str = "independent cut initiator strict|loose NORMAL REDUNDANT
 independent cut responder strict|loose NORMAL REDUNDANT OURS [CALLER ...]   our own id and those who may call, each of eight hex digits
 independent replay [FILE]
+independent checker [FILE]            the verdict over a recorder file; what a person is told of it stands on standard error
+independent recorder FILE OUT [SEED]  the recorder file of a trace; with a seed some calls are left without an answer
 independent check                     004's annex table 14 beside 01's check
 independent types                     the constant table of packet types
 independent streams SEED COUNT DIR    random pairs of link bytes
@@ -41,6 +46,8 @@ independent calls SEED COUNT [FILE]   random single connection calls, likewise
 independent tables SEED COUNT [FILE]    random calls on tables of 0, 1, 2, 64 and 65 records, likewise
 independent rows SEED COUNT [FILE]    random calls from C over rows of bytes, likewise
 independent traces SEED COUNT DIR     random traces
+independent recordings SEED COUNT DIR  random recorder files, and the verdict that each must get
+independent recording SEED BYTES FILE  one right recorder file of at least so many bytes
 independent given steps|messages|calls|packets|writes|tables|rows FILE  what comes out for the inputs of a file
 independent selftest                  the program's own tests";
 
@@ -62,6 +69,10 @@ fn run(words: &[&str]) -> Result<bool, String> {
         ["cut", role, strict, normal, redundant, ids @ ..] => cut(role, strict, normal, redundant, ids),
         ["replay"] => print_all([replay::replay(&standard_input()?)]),
         ["replay", name] => print_all([replay::replay(&file(name)?)]),
+        ["checker"] => print_verdict(&standard_input()?),
+        ["checker", name] => print_verdict(&file(name)?),
+        ["recorder", name, out] => write_file(out, &recorder::recorder_file(&file(name)?, None)),
+        ["recorder", name, out, seed] => write_file(out, &recorder::recorder_file(&file(name)?, Some(number(seed)?))),
         ["check"] => print_all([annex::table()]),
         ["types"] => print_all(packet::TYPES.iter().map(type_line)),
         ["streams", seed, count, folder] => streams_to(number(seed)?, number(count)? as usize, Path::new(folder)),
@@ -80,6 +91,8 @@ fn run(words: &[&str]) -> Result<bool, String> {
         ["rows", seed, count] => print_lines(rowcalls::HEADER, rows(seed, count)?.map(|(_, line)| line)),
         ["rows", seed, count, name] => both(name, rows(seed, count)?.map(|(bytes, line)| (bytes, given::came_out(&line)))),
         ["traces", seed, count, folder] => traces_to(number(seed)?, number(count)? as usize, Path::new(folder)),
+        ["recordings", seed, count, folder] => recordings_to(number(seed)?, number(count)? as usize, Path::new(folder)),
+        ["recording", seed, bytes, name] => recording_to(number(seed)?, number(bytes)? as usize, name),
         ["given", kind, name] => print_all(given::lines(kind, &file(name)?)?.into_iter().map(|line| line + "\n")),
         ["selftest"] => {
             let tests = selftest::all();
@@ -181,8 +194,20 @@ fn both(name: &str, made: impl Iterator<Item = (Vec<u8>, String)>) -> Result<boo
         given.extend(bytes);
         wanted.push(line + "\n");
     }
-    std::fs::write(name, given).map_err(|fault| format!("{name}: {fault}"))?;
+    write_file(name, &given)?;
     print_all(wanted)
+}
+
+fn write_file(name: &str, bytes: &[u8]) -> Result<bool, String> {
+    std::fs::write(name, bytes).map_err(|fault| format!("{name}: {fault}"))?;
+    Ok(true)
+}
+
+/// The verdict over a recorder file on standard output, and what is said of it on standard error.
+fn print_verdict(recorded: &[u8]) -> Result<bool, String> {
+    let verdict = checker::check(recorded);
+    eprint!("{}", verdict.said);
+    print_all([verdict.line])
 }
 
 fn type_line(row: &packet::PacketType) -> String {
@@ -194,6 +219,19 @@ fn type_line(row: &packet::PacketType) -> String {
 fn streams_to(seed: u64, count: usize, folder: &Path) -> Result<bool, String> {
     let answers = streams::write_streams(seed, count, folder).map_err(|fault| fault.to_string())?;
     print_lines("answer count", answers.into_iter().map(|(answer, times)| format!("{answer} {times}")))
+}
+
+/// Writes the recorder files and prints how often each damage was done.
+fn recordings_to(seed: u64, count: usize, folder: &Path) -> Result<bool, String> {
+    let counts = recorder::write_recordings(seed, count, folder).map_err(|fault| fault.to_string())?;
+    print_lines("damage count", counts.into_iter().map(|(damage, times)| format!("{damage} {times}")))
+}
+
+/// Writes one long recorder file and prints how many bytes it has.
+fn recording_to(seed: u64, least: usize, name: &str) -> Result<bool, String> {
+    let written = File::create(name).and_then(|file| recorder::write_recording(seed, least, &mut BufWriter::new(file)));
+    let size = written.map_err(|fault| format!("{name}: {fault}"))?;
+    print_all([format!("{size} bytes\n")])
 }
 
 /// Writes the traces and prints how often each call got each answer in each phase.

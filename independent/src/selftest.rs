@@ -5,7 +5,7 @@ use crate::links::{self, Known, Role, State};
 use crate::message::{self, After, Message};
 use crate::packet::{self, Link, Packet};
 use crate::replay::{self, Call};
-use crate::{annex, calls, given, messages, rowcalls, rows, streams, table, traces};
+use crate::{annex, calls, checker, given, messages, recorder, rowcalls, rows, streams, table, traces};
 use std::collections::BTreeSet;
 use std::fmt::Debug;
 
@@ -71,6 +71,20 @@ pub fn all() -> Tests {
     row_files(&mut tests);
     trace_replay(&mut tests);
     trace_ages(&mut tests);
+    recorded_by_hand(&mut tests);
+    answers_left_out(&mut tests);
+    answers_changed(&mut tests);
+    answers_in_words(&mut tests);
+    answers_misplaced(&mut tests);
+    answer_lengths(&mut tests);
+    recorder_files_cut(&mut tests);
+    first_reason(&mut tests);
+    first_in_the_file(&mut tests);
+    answers_of_no_slot(&mut tests);
+    random_recordings(&mut tests);
+    kept_answers(&mut tests);
+    many_calls(&mut tests);
+    long_recordings(&mut tests);
     everything_occurs(&mut tests);
     everything_occurs_over_rows(&mut tests);
     tests
@@ -1330,6 +1344,405 @@ fn trace_ages(tests: &mut Tests) {
     let lines = ["0 0", "0 0", "0 0", "0 0", "0 40", "205 41", "202 0", "0 23", "0 0", "0 0", "206 -1", "204 7", "205 343", "102 0"];
     let wanted: String = lines.iter().map(|line| format!("5 {line}\n")).collect();
     tests.equal("the ages of a trace", replay::replay(&trace), format!("slot answer age\n{wanted}end 14\n"));
+}
+
+// Recorder files.
+
+/// A recorder file by hand, a call and its answer: on slot 5 the initiator of the worked numbers, which is opened, takes a message of age 40, one of
+/// age -1, and one that it had; a send, the close, a tick on the closed slot, and one on a slot that is none.
+const BY_HAND: [(&str, &str); 10] = [
+    (
+        "5232 01 05 000003E8 001A 00 0003 00000028 00000000 000001F4 0000000A 03 0007 00000032",
+        "5232 06 05 000003E8 001A 0000 00 00000000 01 0007 000003E8 00000000 00000000 00000032",
+    ),
+    ("5232 02 05 00000438 0013 02 0014 000000C8 000003E8 000000AA 00000005", "5232 06 05 00000438 0016 0000 00 00000000 03 0008 00000438 000000C8 00000438"),
+    (
+        "5232 02 05 00000460 0019 04 0015 0000010E 00000438 00000104 01 00000370 01 00000348",
+        "5232 06 05 00000460 0017 0000 00 00000000 05 0009 00000460 0000010E 00000460 01",
+    ),
+    ("5232 02 05 00000492 0010 06 0016 0000012C 00000000 00000000 05", "5232 06 05 00000492 0007 0000 00 00000028"),
+    ("5232 02 05 00000492 0010 06 0017 00000155 00000000 00000000 05", "5232 06 05 00000492 0007 00CE 00 FFFFFFFF"),
+    ("5232 02 05 00000492 0010 06 0017 00000155 00000000 00000000 05", "5232 06 05 00000492 0007 00CA 00 00000000"),
+    ("5232 03 05 00000493 0002 AB0D", "5232 06 05 00000493 0018 0000 00 00000000 06 000A 00000493 00000155 00000492 AB0D"),
+    ("5232 05 05 00000000 0000", "5232 06 05 00000000 0007 0000 01 00000000"),
+    ("5232 04 05 00000000 0001 FF", "5232 06 05 00000000 0007 0066 00 00000000"),
+    ("5232 04 40 00000007 0000", "5232 06 40 00000007 0007 0065 00 00000000"),
+];
+
+/// Its records: the call numbered N stands at 2N - 2, and its answer behind it.
+fn by_hand() -> Vec<Vec<u8>> {
+    BY_HAND.iter().flat_map(|(call, answer)| [call, answer]).map(|text| bytes_in(&text.replace(' ', ""))).collect()
+}
+
+/// What is printed, and the first line that is said.
+fn judged_as(records: &[Vec<u8>]) -> (String, String) {
+    let verdict = checker::check(&records.concat());
+    (verdict.line, verdict.said.lines().next().unwrap_or("").to_string())
+}
+
+/// What must be said where it stops at the record at that place.
+fn stops_at(records: &[Vec<u8>], line: &str, at: usize, why: &str) -> (String, String) {
+    let offset = records[..at].concat().len();
+    (format!("{line}\n"), format!("record {}, byte offset {offset}: {why}", at + 1))
+}
+
+/// Bad at that place, and for that reason; and nothing more is said.
+fn is_bad(tests: &mut Tests, what: &str, records: &[Vec<u8>], at: usize, why: &str) {
+    tests.equal(what, judged_as(records), stops_at(records, "bad", at, why));
+    tests.equal(what, checker::check(&records.concat()).said.lines().count(), 1);
+}
+
+/// The answer at that place differs; three lines are said.
+fn does_differ(tests: &mut Tests, what: &str, records: &[Vec<u8>], at: usize, call: usize) {
+    tests.equal(what, judged_as(records), stops_at(records, &format!("differs {call}"), at, checker::NOT_THE_ANSWER));
+    tests.equal(what, checker::check(&records.concat()).said.lines().count(), 3);
+}
+
+fn does_agree(tests: &mut Tests, what: &str, records: &[Vec<u8>], judged: usize) {
+    tests.equal(what, judged_as(records), (format!("agrees {judged}\n"), String::new()));
+}
+
+fn with_bytes(record: &[u8], length: usize) -> Vec<u8> {
+    let mut longer = record.to_vec();
+    longer.resize(10 + length, 0);
+    longer[8..10].copy_from_slice(&(length as u16).to_be_bytes());
+    longer
+}
+
+/// The file by hand agrees, and is what the recorder makes of its calls, up to a bad record; to `replay` an answer is a record of unknown kind.
+fn recorded_by_hand(tests: &mut Tests) {
+    let records = by_hand();
+    let trace: Vec<u8> = records.iter().step_by(2).flatten().copied().collect();
+    does_agree(tests, "the file by hand", &records, 10);
+    does_agree(tests, "no file", &[], 0);
+    tests.equal("the recorder's file", recorder::recorder_file(&trace, None), records.concat());
+    for bad in [&[0x52_u8][..], &[0; 30], &records[1], &with_bytes(&records[0], 1001)] {
+        tests.equal("the recorder at a bad record", recorder::recorder_file(&[&trace[..], bad, &records[0]].concat(), None), records.concat());
+    }
+    tests.equal("the recorder of no trace", recorder::recorder_file(&[], Some(1)), Vec::new());
+    let lines = ["5 0 0", "5 0 0", "5 0 0", "5 0 40", "5 206 -1", "5 202 0", "5 0 0", "5 0 0", "5 102 0", "64 101 0"];
+    for calls in 1..=10 {
+        let kept: Vec<Vec<u8>> = records.iter().step_by(2).take(calls).cloned().chain([records[2 * calls - 1].clone(), records[0].clone()]).collect();
+        let wanted = format!("slot answer age\n{}\nbad\nend {calls}\n", lines[..calls].join("\n"));
+        tests.equal("replay at an answer", replay::replay(&kept.concat()), wanted);
+    }
+}
+
+/// CHECKER-7: whichever answers are left out, the others are judged as before; a wrong one is told by its place among all calls.
+fn answers_left_out(tests: &mut Tests) {
+    let records = by_hand();
+    for left in 0..1024_usize {
+        let kept: Vec<Vec<u8>> = (0..20).filter(|at| at % 2 == 0 || left >> (at / 2) & 1 == 1).map(|at| records[at].clone()).collect();
+        does_agree(tests, "answers left out", &kept, left.count_ones() as usize);
+    }
+    for call in 1..=10 {
+        let mut kept: Vec<Vec<u8>> = records.iter().step_by(2).cloned().collect();
+        kept.insert(call, records[2 * call - 1].clone());
+        does_agree(tests, "one answer alone", &kept, 1);
+        kept[call][11] ^= 1;
+        does_differ(tests, "one wrong answer alone", &kept, call, call);
+    }
+    let trace: Vec<u8> = records.iter().step_by(2).flatten().copied().collect();
+    let sizes: BTreeSet<usize> = (0..200).map(|seed| recorder::recorder_file(&trace, Some(seed)).len()).collect();
+    tests.equal("the recorder leaves some out", sizes.len() > 5, true);
+    let judged = |seed| checker::check(&recorder::recorder_file(&trace.repeat(20), Some(seed))).line;
+    let counts: Vec<usize> = (0..20).filter_map(|seed| judged(seed).strip_prefix("agrees ")?.trim_end().parse().ok()).collect();
+    tests.equal("three in four are kept", (counts.len(), counts.iter().all(|count| (120..=180).contains(count))), (20, true));
+}
+
+/// CHECKER-6: every byte of every answer counts, and each byte more or less; in a header every byte that is not its own is bad.
+fn answers_changed(tests: &mut Tests) {
+    let records = by_hand();
+    for at in (1..20).step_by(2) {
+        let (call, length) = (at / 2 + 1, records[at].len() - 10);
+        for byte in 0..records[at].len() {
+            for change in [1, 2, 0x80, 0xFF] {
+                let mut other = records.clone();
+                other[at][byte] ^= change;
+                match byte {
+                    0 | 1 => is_bad(tests, "a mark", &other, at, checker::WRONG_MARK),
+                    3..=7 => is_bad(tests, "a slot or a now", &other, at, checker::NO_CALL),
+                    10.. => does_differ(tests, "a byte of an answer", &other, at, call),
+                    _ => {}
+                }
+            }
+        }
+        let mut other = records.clone();
+        other[at] = with_bytes(&records[at], length + 1);
+        does_differ(tests, "a byte more", &other, at, call);
+        other[at] = with_bytes(&records[at], length - 1);
+        if length > 7 {
+            does_differ(tests, "a byte less", &other, at, call);
+        } else {
+            is_bad(tests, "a byte less than seven", &other, at, checker::WRONG_LENGTH);
+        }
+        for kind in (0..=0).chain(7..=255) {
+            other[at] = records[at].clone();
+            other[at][2] = kind;
+            is_bad(tests, "a kind for an answer's", &other, at, checker::UNKNOWN_KIND);
+        }
+    }
+}
+
+/// CHECKER-14: both answers in words, as they stand on standard error, and the bytes that an earlier call left are not among them.
+fn answers_in_words(tests: &mut Tests) {
+    let start = "010007000003E8000000000000000000000032";
+    for (at, changed, line, said) in [
+        (1, "5232 06 05 000003E8 0007 0000 02 80000000", "differs 1", format!("record 2, byte offset 36: not the answer that the rules give
+recorded: answer 0 released 2 age -2147483648 written -
+the rules: answer 0 released 0 age 0 written {start}
+")),
+        (1, "5232 06 05 000003E8 0008 FFFF FF 7FFFFFFF 0A", "differs 1", format!("record 2, byte offset 36: not the answer that the rules give
+recorded: answer 65535 released 255 age 2147483647 written 0A
+the rules: answer 0 released 0 age 0 written {start}
+")),
+        (7, "5232 06 05 00000492 0008 0000 00 00000028 06", "differs 4", String::from("record 8, byte offset 227: not the answer that the rules give
+recorded: answer 0 released 0 age 40 written 06
+the rules: answer 0 released 0 age 40 written -
+")),
+        (7, "5232 06 05 00000492 0009 0000 00 00000028 0000", "differs 4", String::from("record 8, byte offset 227: not the answer that the rules give
+recorded: answer 0 released 0 age 40 written 0000
+the rules: answer 0 released 0 age 40 written -
+")),
+        (9, "5232 06 05 00000492 0007 00CD 01 00000001", "differs 5", String::from("record 10, byte offset 270: not the answer that the rules give
+recorded: answer 205 released 1 age 1 written -
+the rules: answer 206 released 0 age -1 written -
+")),
+        (13, "5232 06 05 00000493 0009 0000 00 00000000 ab0d", "differs 7", String::from("record 14, byte offset 342: not the answer that the rules give
+recorded: answer 0 released 0 age 0 written AB0D
+the rules: answer 0 released 0 age 0 written 06000A000004930000015500000492AB0D
+")),
+        (15, "5232 06 05 00000000 0007 0000 00 00000000", "differs 8", String::from("record 16, byte offset 386: not the answer that the rules give
+recorded: answer 0 released 0 age 0 written -
+the rules: answer 0 released 1 age 0 written -
+")),
+        (19, "5232 06 40 00000007 0006 0000 00 000000", "bad", String::from("record 20, byte offset 441: wrong length\n")),
+    ] {
+        let mut records = by_hand();
+        records[at] = bytes_in(&changed.replace(' ', ""));
+        let verdict = checker::check(&records.concat());
+        tests.equal("the verdict", verdict.line, format!("{line}\n"));
+        tests.equal("the words", verdict.said, said);
+    }
+}
+
+/// CHECKER-2, CHECKER-4: an answer that does not stand directly behind its call.
+fn answers_misplaced(tests: &mut Tests) {
+    let records = by_hand();
+    for at in (1..20).step_by(2) {
+        let mut doubled = records.clone();
+        doubled.insert(at + 1, records[at].clone());
+        is_bad(tests, "an answer doubled", &doubled, at + 1, checker::NO_CALL);
+        doubled[at + 1][11] ^= 1;
+        is_bad(tests, "a second answer, a wrong one", &doubled, at + 1, checker::NO_CALL);
+        let first = [&[records[at].clone()], &records[..]].concat();
+        is_bad(tests, "an answer first in the file", &first, 0, checker::NO_CALL);
+        is_bad(tests, "an answer alone", &records[at..=at], 0, checker::NO_CALL);
+    }
+    for zero in ["5232060000000000000700000000000000", "5232060000000000000700660000000000"] {
+        is_bad(tests, "an answer of slot 0 and now 0, first", &[bytes_in(zero), records[0].clone()], 0, checker::NO_CALL);
+    }
+    // calls 4, 5 and 6 have the same slot and now, and 5 and 6 are the same; so call 4's answer is judged behind them, and is not theirs
+    for (kept, at, call) in [(&[0, 2, 4, 6, 8, 7][..], 5, 5), (&[0, 2, 4, 6, 8, 10, 9], 6, 6), (&[0, 2, 4, 6, 8, 10, 7], 6, 6), (&[0, 2, 4, 6, 9], 4, 4)] {
+        let moved: Vec<Vec<u8>> = kept.iter().map(|at| records[*at].clone()).collect();
+        does_differ(tests, "the answer to another call of that slot and now", &moved, at, call);
+    }
+    for (kept, at) in [(&[0, 2, 1][..], 2), (&[0, 2, 3, 1], 3), (&[0, 2, 4, 3, 5], 3), (&[0, 1, 3, 2], 2), (&[1, 0], 0), (&[0, 18, 1], 2)] {
+        let moved: Vec<Vec<u8>> = kept.iter().map(|at| records[*at].clone()).collect();
+        is_bad(tests, "an answer behind another call", &moved, at, checker::NO_CALL);
+    }
+}
+
+/// CHECKER-3, CHECKER-5: 7 to 1,007 for an answer, 0 to 1,000 for a call; the longest answer is that of a send of 985 bytes.
+fn answer_lengths(tests: &mut Tests) {
+    let records = by_hand();
+    for at in (1..20).step_by(2) {
+        for length in (0..7).chain([1008, 1009, 2007, 65_535]) {
+            let mut other = records.clone();
+            other[at] = with_bytes(&records[at], length);
+            is_bad(tests, "an answer's length", &other, at, checker::WRONG_LENGTH);
+        }
+        for length in [100, 1000, 1001, 1006, 1007] {
+            let mut other = records.clone();
+            other[at] = with_bytes(&records[at], length);
+            does_differ(tests, "an allowed length that is not the right one", &other, at, at / 2 + 1);
+        }
+        for length in [1001, 1002, 1007, 1008, 65_535] {
+            let mut other = records.clone();
+            other[at - 1] = with_bytes(&records[at - 1], length);
+            is_bad(tests, "a call's length", &other, at - 1, checker::WRONG_LENGTH);
+        }
+    }
+    let tick = with_bytes(&records[16], 1000);
+    does_agree(tests, "a tick of 1,000 bytes", &[&records[..16], &[tick], &records[17..]].concat(), 10);
+    let trace = [&records.iter().step_by(2).take(6).flatten().copied().collect::<Vec<u8>>()[..], &with_bytes(&records[12], 985)].concat();
+    let file = recorder::recorder_file(&trace, None);
+    tests.equal("the longest answer", &file[file.len() - 1017..file.len() - 1007], &bytes_in("523206050000049303EF")[..]);
+    tests.equal("the longest answer agrees", checker::check(&file).line, String::from("agrees 7\n"));
+    let mut other = file.clone();
+    other[file.len() - 1] ^= 1;
+    tests.equal("its last byte", checker::check(&other).line, String::from("differs 7\n"));
+    tests.equal("without its last byte", checker::check(&file[..file.len() - 1]).line, String::from("bad\n"));
+}
+
+/// CHECKER-4, CHECKER-5: every first part of the file by hand; it is bad but where a record ends.
+fn recorder_files_cut(tests: &mut Tests) {
+    let records = by_hand();
+    for at in 0..20 {
+        does_agree(tests, "whole records", &records[..at], at / 2);
+        for left in 1..records[at].len() {
+            let cut = [&records[..at], &[records[at][..left].to_vec()]].concat();
+            is_bad(tests, "a cut record", &cut, at, checker::CUT);
+        }
+    }
+    for rest in [vec![0; 9], vec![0x52, 0x32, 9, 0, 0, 0, 0, 0, 255], vec![1]] {
+        is_bad(tests, "a rest that is no header", &[&records[..], &[rest]].concat(), 20, checker::CUT);
+    }
+}
+
+/// CHECKER-13: the first of the reasons that hold is said.
+fn first_reason(tests: &mut Tests) {
+    for (header, left, why) in [
+        ("5332 07 05 00000001 FFFF", 10, checker::WRONG_MARK), ("5233 06 05 00000000 0006", 16, checker::WRONG_MARK),
+        ("5232 07 05 00000001 FFFF", 10, checker::UNKNOWN_KIND), ("5232 00 05 00000000 0007", 12, checker::UNKNOWN_KIND),
+        ("5232 06 06 00000001 0006", 10, checker::WRONG_LENGTH), ("5232 06 05 00000000 03F0", 20, checker::WRONG_LENGTH),
+        ("5232 06 06 00000001 0000", 10, checker::WRONG_LENGTH), ("5232 04 05 00000000 03E9", 10, checker::WRONG_LENGTH),
+        ("5232 06 06 00000001 0007", 16, checker::CUT), ("5232 06 05 00000000 03EF", 1016, checker::CUT),
+        ("5232 04 05 00000000 03E8", 1009, checker::CUT), ("5232 06 06 00000000 0007", 17, checker::NO_CALL),
+        ("5232 06 05 00000001 03EF", 1017, checker::NO_CALL), ("5332 06 05 00000000 0007", 9, checker::CUT),
+    ] {
+        let mut record = bytes_in(&header.replace(' ', ""));
+        record.resize(left.max(10), 0);
+        record.truncate(left);
+        // directly behind the tick of slot 5 at 0, which is call 9
+        let file = [&by_hand()[..17], &[record]].concat();
+        is_bad(tests, header, &file, 17, why);
+    }
+}
+
+/// CHECKER-11: a wrong answer, a bad record, whichever is first; and of two wrong answers the first.
+fn first_in_the_file(tests: &mut Tests) {
+    let spoiled = |wrong: &[usize], bad: &[usize]| {
+        let mut records = by_hand();
+        wrong.iter().for_each(|at| records[*at][11] ^= 4);
+        bad.iter().for_each(|at| records[*at][1] ^= 1);
+        records
+    };
+    for at in (1..20).step_by(2) {
+        let call = at / 2 + 1;
+        is_bad(tests, "an answer wrong and bad", &spoiled(&[at], &[at]), at, checker::WRONG_MARK);
+        is_bad(tests, "a wrong answer behind its bad call", &spoiled(&[at], &[at - 1]), at - 1, checker::WRONG_MARK);
+        does_differ(tests, "all answers wrong from there on", &spoiled(&(at..20).step_by(2).collect::<Vec<usize>>(), &[]), at, call);
+        for later in at + 1..20 {
+            does_differ(tests, "a bad record behind a wrong answer", &spoiled(&[at], &[later]), at, call);
+            is_bad(tests, "a wrong answer behind a bad one", &spoiled(&[later - later % 2 + 1], &[at]), at, checker::WRONG_MARK);
+        }
+        let mut other = by_hand();
+        other[at][11] ^= 4;
+        other[at][3] ^= 1;
+        is_bad(tests, "a wrong answer of another slot", &other, at, checker::NO_CALL);
+    }
+}
+
+/// CHECKER-2: a slot that is none is answered 101, whatever the call and its now, and that answer is judged like any other.
+fn answers_of_no_slot(tests: &mut Tests) {
+    for slot in 64..=255 {
+        for (kind, now) in (1..=5).flat_map(|kind| [0, 9, u32::MAX].map(|now| (kind, now))) {
+            let call = replay::bytes_of(&Call { kind, slot, now, bytes: &[1, 2, 3] });
+            let answer = |slot, number| replay::bytes_of(&Call { kind: 6, slot, now, bytes: &[0, number, 0, 0, 0, 0, 0] });
+            does_agree(tests, "a slot that is none", &[call.clone(), answer(slot, 101), call.clone()], 1);
+            does_differ(tests, "a slot that is none, another answer", &[call.clone(), answer(slot, 102)], 1, 1);
+            is_bad(tests, "a slot that is none, another slot", &[call, answer(slot ^ 64, 101)], 1, checker::NO_CALL);
+        }
+    }
+}
+
+/// The makers: each damage has the verdict that it must have, and each reason occurs with it.
+fn random_recordings(tests: &mut Tests) {
+    let (mut damages, mut reasons, mut answers) = (BTreeSet::new(), BTreeSet::new(), BTreeSet::new());
+    let (mut negative, mut released) = (0, 0);
+    for made in recorder::recordings(1, 3000) {
+        let verdict = checker::check(&made.bytes);
+        let mut lines = verdict.said.lines();
+        tests.equal(made.damage, verdict.line, format!("{}\n", made.verdict));
+        tests.equal("right or damaged", made.damage.starts_with("right-"), made.verdict.starts_with("agrees"));
+        damages.insert(made.damage);
+        reasons.extend(lines.next().and_then(|line| line.split(": ").nth(1)).map(String::from));
+        let right = lines.nth(1).unwrap_or("");
+        answers.extend(right.split(' ').nth(3).map(String::from));
+        negative += usize::from(right.contains(" age -"));
+        released += usize::from(right.contains(" released 1 "));
+    }
+    tests.equal("the rare ones are spoiled too", (negative > 15, released > 130), (true, true));
+    tests.equal("damages", damages, recorder::damages().into_iter().collect());
+    let wanted = [
+        "cut record", "wrong mark", "unknown kind", "wrong length", "no call of its slot and now directly before it", "not the answer that the rules give",
+    ];
+    tests.equal("reasons", reasons, BTreeSet::from(wanted.map(String::from)));
+    let wanted = ["0", "101", "102", "103", "104", "105", "106", "107", "201", "202", "203", "204", "205", "206", "207", "208", "209", "211"];
+    tests.equal("answers that are spoiled", answers, BTreeSet::from(wanted.map(String::from)));
+}
+
+/// How many calls a right recorder file has, how many answers, and how many closes of slot 63 at 0 without bytes.
+fn counted(file: &[u8]) -> (usize, usize, usize) {
+    let (mut at, mut counts) = (0, (0, 0, 0));
+    while at < file.len() {
+        counts.0 += usize::from(file[at + 2] < 6);
+        counts.1 += usize::from(file[at + 2] == 6);
+        counts.2 += usize::from(file[at + 2..at + 10] == [5, 63, 0, 0, 0, 0, 0, 0]);
+        at += 10 + usize::from(u16::from_be_bytes([file[at + 8], file[at + 9]]));
+    }
+    counts
+}
+
+/// All answers, some and none; another file from another seed; and the line in the list.
+fn kept_answers(tests: &mut Tests) {
+    let of = |seed: u64, damage: &str| -> Vec<Vec<u8>> {
+        recorder::recordings(seed, 640).filter(|made| made.damage == damage).map(|made| made.bytes).collect()
+    };
+    let all = of(1, "right-all");
+    tests.equal("right files", all.len(), 10);
+    tests.equal("all answers", all.iter().all(|file| counted(file).0 == counted(file).1), true);
+    tests.equal("no answers", of(1, "right-none").iter().all(|file| counted(file).1 == 0), true);
+    let (calls, answers) = of(1, "right-some").iter().map(|file| counted(file)).fold((0, 0), |sum, (calls, answers, _)| (sum.0 + calls, sum.1 + answers));
+    tests.equal("about three answers in four", (answers * 100 > calls * 65, answers * 100 < calls * 85), (true, true));
+    tests.equal("the same seed", of(1, "right-all") == all, true);
+    tests.equal("another seed", of(2, "right-all").iter().zip(&all).any(|(one, other)| one == other && !one.is_empty()), false);
+    let made = recorder::Recording { damage: "slot", verdict: String::from("bad"), bytes: Vec::new() };
+    tests.equal("a line of the list", made.line("00037.record"), String::from("00037.record slot bad\n"));
+}
+
+/// Counts and offsets that two bytes do not hold: 70,000 ticks on a slot that is none, with the last answer right, wrong, and cut.
+fn many_calls(tests: &mut Tests) {
+    let tick = replay::bytes_of(&Call { kind: 4, slot: 64, now: 0, bytes: &[] });
+    let right = recorder::recorder_file(&tick.repeat(70_000), None);
+    let (mut wrong, mut cut) = (right.clone(), right.clone());
+    wrong[1_889_994] = 102;
+    cut.pop();
+    let place = "record 140000, byte offset 1889983: ";
+    let differs = format!("{place}not the answer that the rules give
+recorded: answer 102 released 0 age 0 written -
+the rules: answer 101 released 0 age 0 written -
+");
+    for (file, line, said) in [(right, "agrees 70000", String::new()), (wrong, "differs 70000", differs), (cut, "bad", format!("{place}cut record\n"))] {
+        tests.equal("many calls", checker::check(&file), checker::Verdict { line: format!("{line}\n"), said });
+    }
+}
+
+/// A long file is right; each of its histories begins with closes, and every second one, about, has about three answers in four.
+fn long_recordings(tests: &mut Tests) {
+    let (mut calls, mut answers) = (0, 0);
+    for seed in 1..4 {
+        let mut file = Vec::new();
+        let size = recorder::write_recording(seed, 1_000_000, &mut file).unwrap_or(0);
+        let verdict = checker::check(&file);
+        let counts = counted(&file);
+        (calls, answers) = (calls + counts.0, answers + counts.1);
+        tests.equal("a long recording", (size == file.len(), size >= 1_000_000, size < 2_000_000, verdict.said), (true, true, true, String::new()));
+        tests.equal("its verdict", verdict.line, format!("agrees {}\n", counts.1));
+        tests.equal("its closes", (&file[..10], counts.2 > 5), (&[0x52, 0x32, 5, 0, 0, 0, 0, 0, 0, 0][..], true));
+    }
+    tests.equal("seven answers in eight", (answers * 100 > calls * 80, answers * 100 < calls * 95), (true, true));
 }
 
 // The makers of random input reach every answer, and each edge of the age.

@@ -2,6 +2,7 @@
 
 use crate::connection::{self, Record, Settings};
 use crate::craft;
+use crate::message;
 use crate::random::Random;
 use crate::replay::{self, Call, BEGIN, CLOSE, RECEIVE, SEND, TICK};
 use crate::table;
@@ -188,6 +189,17 @@ impl World<'_> {
         }
     }
 
+    /// A send of the longest data, or of one byte less or more, which arrives like any other.
+    fn send_long(&mut self, ends: &mut Ends) {
+        let end = self.random.below(2) as usize;
+        let length = self.random.pick(&[message::DATA_MOST - 1, message::DATA_MOST, message::DATA_MOST, message::DATA_MOST + 1]);
+        let data = self.random.bytes(length);
+        let written = self.call(SEND, ends.slots[end], ends.time.wrapping_add(ends.offsets[end]), &data);
+        if !written.is_empty() {
+            ends.to[1 - end].push_back(written);
+        }
+    }
+
     /// A record that is `bad`, in one of the four ways of TRACE-8 to TRACE-11.
     fn spoil(&mut self) {
         let good = replay::bytes_of(&Call { kind: TICK, slot: 0, now: 5, bytes: &[1, 2, 3] });
@@ -221,7 +233,7 @@ fn some_ends(random: &mut Random, first_slot: u8) -> Ends {
 }
 
 /// One history: whole set-ups and traffic between ends, and provoked calls on other slots.
-fn history(seed: u64, counts: &mut Counts) -> Vec<u8> {
+pub fn history(seed: u64, counts: &mut Counts) -> Vec<u8> {
     let mut random = Random::new(seed);
     let mut ends: Vec<Ends> = (0..3).map(|at| some_ends(&mut random, 2 * at)).collect();
     let lone: Vec<u8> = (0..6).map(|_| random.between(6, 63) as u8).chain([63]).collect();
@@ -250,6 +262,31 @@ fn history(seed: u64, counts: &mut Counts) -> Vec<u8> {
     }
     if spoiled {
         world.spoil();
+    }
+    world.trace
+}
+
+/// A short history: one pair of ends, one lone slot, slots that are none, and the longest sends; of some dozens of calls, or of none, and now and then of
+/// more than one byte can count.
+pub fn short_history(seed: u64) -> Vec<u8> {
+    let mut random = Random::new(seed);
+    let first_slot = random.pick(&[0, 2, 40, 62]);
+    let mut ends = some_ends(&mut random, first_slot);
+    let lone = random.pick(&[10, 39, 61]);
+    let events = if random.once_in(32) { random.between(400, 600) } else { random.between(0, 70) };
+    let mut counts = Counts::new();
+    let mut world = World { random, table: table::closed(), trace: Vec::new(), counts: &mut counts };
+    for _ in 0..events {
+        match world.random.below(30) {
+            0 => {
+                let slot = world.random.pick(&[64, 65, 128, 255]);
+                world.provoke(slot);
+            }
+            1 => world.provoke(first_slot),
+            2 => world.send_long(&mut ends),
+            3..=18 => world.between(&mut ends),
+            _ => world.provoke(lone),
+        }
     }
     world.trace
 }

@@ -88,8 +88,8 @@ module _ (W : World) (began : W.Moment) (slot role : ℕ) (settings : Settings) 
   since_history : {t : W.Moment} {table : List Connection} {run : Run W t table} {log : List (Ours W)} {last : W.Moment}
       → Since W began slot role settings t table run log last → Of t table log last
   since_history (Since.begun {t} {table} run u next first period lent out s z) = begins t table u next first period lent out s z
-  since_history (Since.on-slot x u next call lent out again f) = on_it (since_history x) u next call lent out again f
-  since_history (Since.on-another x u next other n call lent out) = on_others (since_history x) u next other n call lent out
+  since_history (Since.on_slot x u next call lent out again f) = on_it (since_history x) u next call lent out again f
+  since_history (Since.on_another x u next other n call lent out) = on_others (since_history x) u next other n call lent out
 
 pub slots_are_histories : SlotsAreHistories
 slots_are_histories W began slot role settings t table run log last x = since_history W began slot role settings x

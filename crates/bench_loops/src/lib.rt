@@ -1,4 +1,6 @@
 // The loops that bench/ times, for C to call: the checks of many headers, a byte at a time as `packet` has it, or bit by bit as it had it.
+#![tactic(auto)]
+
 ghost use Rattle.std.specs.Prelude.{◌≡◌, ◌+◌, ◌≤◌, length};
 ghost use Rattle.packet.specs.Sizes.{checked_bytes};
 ghost use Rattle.packet.specs.Check.{bit_in, byte_in};

@@ -1,4 +1,6 @@
 // The lines of connection calls: one call on a record of its own, and one call on a table.
+#![tactic(auto)]
+
 mod one_call;
 mod one_record;
 mod one_table;

@@ -28,7 +28,7 @@ pub const MOST_ROOM: usize = 1024;
 const SLOT: usize = MOST_RECORDS - 1;
 
 // The fields of a call in the file, behind its record.
-#[derive(Drop)]
+#[derive(Clone, Copy)]
 struct OneCall {
     kind: u8,
     now: Count,

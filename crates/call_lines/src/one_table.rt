@@ -28,7 +28,7 @@ const OWNER: u8 = 1;
 const HIGH: usize = 4294967296;
 
 // The fields of a call in the file.
-#[derive(Drop)]
+#[derive(Clone, Copy)]
 struct OneTable {
     owner: u8,
     count: u8,

@@ -7,7 +7,6 @@ use native.Mathlib.Omega.{arith}
 use borrow.Author.Tests.{le-leb, eq-eqb, ltb-false, eqb-true, eqb-false, not-false}
 use lib.Dec.{T, ltb, leb, eqb, lit<}
 use lib.ListN.{length}
-use lib.Seq.{sets}
 use mathlib.Core.List.{List}
 use Rattle.rules.specs.Rows.{when◌answer◌else◌}
 use Rattle.clock.specs.declared.Count.{Count}

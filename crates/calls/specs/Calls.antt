@@ -12,7 +12,6 @@ use Rattle.message_writing.specs.Writing.{message_bytes, writes}
 use Rattle.message.specs.declared.Header.{Header}
 use Rattle.message.specs.declared.Parsed.{Parsed}
 use Rattle.connection.specs.declared.Settings.{Settings}
-use Rattle.connection.specs.declared.Own.{Own}
 use Rattle.connection.specs.declared.Connection.{Connection}
 use Rattle.connection.specs.Connection.{
   closed,

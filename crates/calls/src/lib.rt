@@ -1,4 +1,6 @@
 // The five calls on one record, by value: begin, receive, send, tick and close.
+#![tactic(auto)]
+
 ghost use Rattle.std.specs.Prelude.{◌≡◌, true, [], ◌+◌, ◌^◌, ◌≤◌, ◌<◌, length};
 ghost use Rattle.std.proofs.lemmas.List.Edits.{sets};
 ghost use Rattle.message.specs.Read.{data_place};
@@ -47,7 +49,7 @@ pub const INITIATOR: u8 = 0;
 pub const RESPONDER: u8 = 1;
 
 // What begin is given for the whole of the connection: the role, the settings, the first number and the period.
-#[derive(Drop)]
+#[derive(Clone, Copy)]
 pub struct Given {
     pub role: u8,
     pub settings: Settings,
@@ -55,7 +57,7 @@ pub struct Given {
 }
 
 // A call, with what the caller passes by value beside the now; the bytes to read and the out buffer are lent.
-#[derive(Drop)]
+#[derive(Clone, Copy)]
 pub enum Call {
     Begin(Given),
     Receive,
@@ -65,7 +67,7 @@ pub enum Call {
 }
 
 // What a call says.
-#[derive(Drop)]
+#[derive(Clone, Copy)]
 pub struct Answer {
     // 0, or the number of the fault.
     pub number: u16,
@@ -79,7 +81,7 @@ pub struct Answer {
 }
 
 // A call's answer, and the record that it leaves.
-#[derive(Drop)]
+#[derive(Clone, Copy)]
 pub struct Called {
     pub answer: Answer,
     pub next: Connection,

@@ -1,21 +1,23 @@
 // Counts, offsets and ages: KIND-1.
+#![tactic(auto)]
+
 ghost use Rattle.std.specs.Prelude.{◌≡◌, ◌^◌, ◌≤◌, pos, ◌+ℤ◌, ◌-ℤ◌, neg_ℤ, int_lt, unsigned_abs};
 ghost use Rattle.clock.specs.Clock.{wrapped, centred, goes_back, wait_of, age_of, no_age, verdict_of, sign_magnitude_of, offset_read};
 
 // A clock's count of 10 ms ticks, mod 2^32.
-#[derive(Drop)]
+#[derive(Clone, Copy)]
 pub struct Count(pub u32);
 
 // Own count minus the peer's.
-#[derive(Drop)]
+#[derive(Clone, Copy)]
 pub struct Offset(pub i32);
 
 // How old a message is; negative where it seems to come from the future.
-#[derive(Drop)]
+#[derive(Clone, Copy)]
 pub struct Age(pub i32);
 
 // What an age says of a message: 206, 205, or handed up.
-#[derive(Drop)]
+#[derive(Clone, Copy)]
 pub enum Verdict {
     Future,
     Late,
@@ -23,21 +25,21 @@ pub enum Verdict {
 }
 
 // An offset as a message carries it.
-#[derive(Drop)]
+#[derive(Clone, Copy)]
 pub struct SignMagnitude {
     pub sign: u8,
     pub magnitude: u32,
 }
 
 // The offset that a sign and a magnitude give.
-#[derive(Drop)]
+#[derive(Clone, Copy)]
 pub enum OffsetRead {
     Is(Offset),
     Malformed,
 }
 
 // A number taken in -2^31 .. 2^31-1, of none of the three kinds.
-#[derive(Drop)]
+#[derive(Clone, Copy)]
 struct Centred(i32);
 
 impl Centred {
@@ -205,6 +207,14 @@ impl Age {
         ensures { result ≡ no_age }
     {
         Age(0)
+    }
+
+    // The age that is x mod 2^32.
+    pub fn of_bits(x: u32) -> Age
+        ensures { result.0 ≡ centred (pos x) }
+    {
+        let z = Centred::of(x);
+        Age(z.0)
     }
 
     // AGE-1.

@@ -1,4 +1,6 @@
 // A connection's record, by value: its settings and their ranges, its phases, and what changes together.
+#![tactic(auto)]
+
 ghost use Rattle.std.specs.Prelude.{◌≡◌};
 ghost use Rattle.connection.specs.Connection.{
   ◌outside◌to◌,
@@ -40,7 +42,7 @@ const MOST_TIME: u32 = 60000;
 
 const MOST_LIMIT: u32 = 255;
 
-#[derive(Drop)]
+#[derive(Clone, Copy)]
 pub struct Settings {
     // N: the largest gap of numbers that is still delivered, and one more is not.
     pub n: u16,
@@ -54,14 +56,14 @@ pub struct Settings {
 }
 
 // What is our own: the next number, and the period.
-#[derive(Drop)]
+#[derive(Clone, Copy)]
 pub struct Own {
     pub number: u16,
     pub period: u32,
 }
 
 // What was heard last of the peer: a message's number and stamp, and own count at its arrival.
-#[derive(Drop)]
+#[derive(Clone, Copy)]
 pub struct Peer {
     pub number: u16,
     pub stamp: Count,
@@ -69,13 +71,13 @@ pub struct Peer {
 }
 
 // The offsets of set-up.
-#[derive(Drop)]
+#[derive(Clone, Copy)]
 pub struct Offsets {
     pub min: Offset,
     pub max: Offset,
 }
 
-#[derive(Drop)]
+#[derive(Clone, Copy)]
 pub struct Connection {
     pub phase: u8,
     pub settings: Settings,

@@ -1,4 +1,6 @@
 // A connection's record as a row of bytes, and its settings among them: each field is read and written where the layout has it.
+#![tactic(auto)]
+
 ghost use Rattle.std.specs.Prelude.{◌≡◌, ◌∷◌, [], ◌+◌, ◌≤◌, length};
 ghost use Rattle.std.proofs.lemmas.List.Edits.{sets};
 ghost use Rattle.field.specs.Field.{field_of};
@@ -14,7 +16,7 @@ use connection::{CLOSED, Connection, Offsets, Own, Peer, Settings};
 pub const ROW_SIZE: usize = 53;
 
 // A row that was read: the record that it stands for, or refused.
-#[derive(Drop)]
+#[derive(Clone, Copy)]
 pub enum RowRead {
     Is(Connection),
     Refused,

@@ -1,4 +1,6 @@
 // cut initiator|responder strict|loose NORMAL REDUNDANT [OURS [CALLER ..]]: takes packets from two recorded links, and prints each step.
+#![tactic(auto)]
+
 ghost use Rattle.std.specs.Prelude.{◌≡◌, true, false, ◌+◌, ◌^◌, ◌≤◌, ◌<◌, length};
 ghost use Rattle.window.specs.Window.{Within};
 ghost use Rattle.window.specs.MovedOnce.{RoomForTwo};
@@ -11,11 +13,18 @@ use links::State;
 use packet::MOST_PACKET;
 use packet_types::ID_SIZE;
 use recording::{Advanced, Id, MOST_LINE, Progress};
+use std::io::{Read, Write};
 use text::Chosen;
-use window::Refilled;
+use window::{Refilled, Window};
 
 // The longest word that an argument is held against has fewer bytes.
 const MOST_WORD: usize = 16;
+
+// The most bytes of a file's name.
+const MOST_NAME: usize = 4096;
+
+// The out buffer has so many bytes.
+const LARGE_BUFFER: usize = 65536;
 
 // CUT-6: how many bytes a link's buffer has: two of the longest packets, so that none is moved twice, and more, so that few are moved.
 const LINK_BUFFER: usize = 262144;
@@ -28,11 +37,13 @@ const FIRST_CALLER: usize = 6;
 // More turns than any run takes.
 const MOST_TURNS: u64 = 0xFFFF_FFFF_FFFF_FFFE;
 
-// The open files of the two links.
+// The open files of the two links, with their names.
 #[derive(Drop)]
-struct Files {
-    normal: i32,
-    redundant: i32,
+struct Files<'a, R> {
+    normal: R,
+    redundant: R,
+    normal_name: &'a [u8],
+    redundant_name: &'a [u8],
 }
 
 // The windows after they are topped up, and whether a file could not be read.
@@ -41,6 +52,19 @@ struct Windows {
     normal: Refilled,
     redundant: Refilled,
     failed: bool,
+}
+
+impl Windows {
+    // The first file could not be read, so that the second one was not.
+    fn first_failed(normal: Refilled, redundant: Window) -> Windows
+        ensures { result.failed ≡ true }
+    {
+        Windows {
+            normal,
+            redundant: Refilled::as_it_was(redundant),
+            failed: true,
+        }
+    }
 }
 
 // How far the cutting is after a turn, and whether a file could not be read or what the out buffer held not be written.
@@ -70,11 +94,10 @@ impl Turned {
 }
 
 // Tops both windows up; the second one only where the first file could be read.
-fn both_topped_up(
-    files: Files,
-    normal_name: &[u8],
+fn both_topped_up<R: Read, E: Write>(
+    files: &mut Files<R>,
+    err: &mut E,
     normal: &mut [u8],
-    redundant_name: &[u8],
     redundant: &mut [u8],
     p: Progress,
 ) -> Windows
@@ -84,20 +107,23 @@ fn both_topped_up(
         normal.new redundant.new result.normal result.redundant
         × Within result.normal.window (length normal.old) × Within result.redundant.window (length redundant.old) }
 {
-    let first = window::topped_up(files.normal, normal_name, normal, p.normal, MOST_PACKET);
-    let unchanged = p.redundant;
+    let first = window::topped_up(
+        &mut files.normal,
+        err,
+        files.normal_name,
+        normal,
+        p.normal,
+        MOST_PACKET,
+    );
     if first.failed {
-        return Windows {
-            normal: first,
-            redundant: Refilled::as_it_was(unchanged),
-            failed: true,
-        };
+        return Windows::first_failed(first, p.redundant);
     }
     let second = window::topped_up(
-        files.redundant,
-        redundant_name,
+        &mut files.redundant,
+        err,
+        files.redundant_name,
         redundant,
-        unchanged,
+        p.redundant,
         MOST_PACKET,
     );
     Windows {
@@ -109,34 +135,51 @@ fn both_topped_up(
 
 // Writes the rest of the text: with what was written before, it is what is printed for the bytes that were read of both files, by the list
 // of callers and our own id, from the state that the steps started with (recording's proofs/Turns). These three are here for the contract
-// alone. No contract can say what is read from a file or written to one: that the calls which read hand over a file's next bytes, and that
-// `written` writes what the out buffer holds, is all that stands between the files and the printed text.
-fn finish(out: &[u8], at: usize, callers: &[u8], ours: u32, state: State)
+// alone. No contract can say what is read from a file or written to one: that the calls which read hand over a file's next bytes is all
+// that stands between the files and the printed text. What `make_room` and `written` write, their contracts say of a writer whose bytes
+// are known.
+fn finish<W: Write, E: Write>(
+    to: &mut W,
+    err: &mut E,
+    out: &[u8],
+    at: usize,
+    callers: &[u8],
+    ours: u32,
+    state: State,
+)
     requires at_in_bounds { at ≤ length out.now }
     requires printed_whole { PrintedWhole callers.now ours state out.now at }
 {
-    text::written(out, at);
+    text::written(to, err, out, at);
 }
 
 // Puts the last line, and finishes.
-fn put_last(out: &mut [u8], was: Advanced, callers: &[u8], ours: u32, state: State)
+fn put_last<W: Write, E: Write>(
+    to: &mut W,
+    err: &mut E,
+    out: &mut [u8],
+    was: Advanced,
+    callers: &[u8],
+    ours: u32,
+    state: State,
+)
     requires next_in_bounds { (was.next ≤ length out.old) × (most_line ≤ length out.old) }
     requires printed_to_the_end { PrintedToTheEnd callers.now ours state out.old was.next was.progress.handed_up }
 {
-    let place = text::make_room(out, was.next, MOST_LINE);
+    let place = text::make_room(to, err, out, was.next, MOST_LINE);
     if place.failed {
         return;
     }
     let end = text::put_end(out, place.at, was.progress.handed_up);
-    finish(out, end, callers, ours, state);
+    finish(to, err, out, end, callers, ours, state);
 }
 
 // One turn: room for a line, the windows topped up, and a step with its line. CUT-6: refills move no more bytes than they read.
-fn turn(
-    files: Files,
-    normal_name: &[u8],
+fn turn<R: Read, W: Write, E: Write>(
+    files: &mut Files<R>,
+    to: &mut W,
+    err: &mut E,
     normal: &mut [u8],
-    redundant_name: &[u8],
     redundant: &mut [u8],
     out: &mut [u8],
     callers: &[u8],
@@ -154,12 +197,12 @@ fn turn(
         × (result.advanced.next ≤ length out.old) × (result.advanced.progress.handed_up ≤ was.progress.handed_up + 1)
         × BothMovedNoMore result.advanced.progress (length normal.old) (length redundant.old) }
 {
-    let place = text::make_room(out, was.next, MOST_LINE);
+    let place = text::make_room(to, err, out, was.next, MOST_LINE);
     if place.failed {
         return Turned::no_further(was);
     }
     let p = was.progress;
-    let windows = both_topped_up(files, normal_name, normal, redundant_name, redundant, p);
+    let windows = both_topped_up(files, err, normal, redundant, p);
     if windows.failed {
         return Turned::no_further(was);
     }
@@ -174,11 +217,11 @@ fn turn(
 
 // Turns until a step answers 301 or 308, then the last line. A proved loop has to end, and nothing says that a file does, so the loop
 // counts its turns down, from a number that no run uses up.
-fn cut_links(
-    files: Files,
-    normal_name: &[u8],
+fn cut_links<R: Read, W: Write, E: Write>(
+    files: &mut Files<R>,
+    to: &mut W,
+    err: &mut E,
     normal: &mut [u8],
-    redundant_name: &[u8],
     redundant: &mut [u8],
     out: &mut [u8],
     next: usize,
@@ -193,22 +236,14 @@ fn cut_links(
     let mut turns = MOST_TURNS;
     while turns > 0 {
         let turned = turn(
-            files,
-            normal_name,
-            normal,
-            redundant_name,
-            redundant,
-            out,
-            callers,
-            ours,
-            advanced,
+            files, to, err, normal, redundant, out, callers, ours, advanced,
         );
         if turned.failed {
             return;
         }
         advanced = turned.advanced;
         if advanced.progress.last {
-            put_last(out, advanced, callers, ours, state);
+            put_last(to, err, out, advanced, callers, ours, state);
             return;
         }
         turns -= 1;
@@ -216,11 +251,11 @@ fn cut_links(
 }
 
 // The heading, then the turns.
-fn print_all(
-    files: Files,
-    normal_name: &[u8],
+fn print_all<R: Read, W: Write, E: Write>(
+    files: &mut Files<R>,
+    to: &mut W,
+    err: &mut E,
     normal: &mut [u8],
-    redundant_name: &[u8],
     redundant: &mut [u8],
     out: &mut [u8],
     callers: &[u8],
@@ -232,16 +267,7 @@ fn print_all(
 {
     let at = recording::put_heading(out, 0);
     cut_links(
-        files,
-        normal_name,
-        normal,
-        redundant_name,
-        redundant,
-        out,
-        at,
-        callers,
-        ours,
-        state,
+        files, to, err, normal, redundant, out, at, callers, ours, state,
     );
 }
 
@@ -254,22 +280,23 @@ fn link_buffer() -> [u8; LINK_BUFFER]
 }
 
 // The buffers of two open files.
-fn cut_files(
-    files: Files,
-    normal_name: &[u8],
-    redundant_name: &[u8],
+fn cut_files<R: Read>(
+    rt: &HostRuntime,
+    files: &mut Files<R>,
     callers: &[u8],
     ours: u32,
     state: State,
 ) {
     let mut normal = link_buffer();
     let mut redundant = link_buffer();
-    let mut out = io::large_buffer();
+    let mut out = [0u8; LARGE_BUFFER];
+    let mut to = rt.stdout();
+    let mut err = rt.stderr();
     print_all(
         files,
-        normal_name,
+        &mut to,
+        &mut err,
         &mut normal,
-        redundant_name,
         &mut redundant,
         &mut out,
         callers,
@@ -279,61 +306,60 @@ fn cut_files(
 }
 
 // Opens both files and cuts them.
-fn cut_named(callers: &[u8], ours: u32, state: State) {
-    let mut normal_name = io::buffer();
-    let normal_size = os::arg(3, &mut normal_name);
-    let normal_fd = window::open_file(&normal_name[..normal_size], b"NORMAL");
-    if normal_fd < 0 {
+fn cut_named(rt: &HostRuntime, callers: &[u8], ours: u32, state: State) {
+    let mut err = rt.stderr();
+    let mut normal_room = [0u8; MOST_NAME];
+    let normal_name = text::arg(rt, 3, &mut normal_room);
+    let Some(normal) = window::open_file(rt, &mut err, normal_name, b"NORMAL") else {
         return;
-    }
-    let mut redundant_name = io::buffer();
-    let redundant_size = os::arg(4, &mut redundant_name);
-    let redundant_fd = window::open_file(&redundant_name[..redundant_size], b"REDUNDANT");
-    if redundant_fd < 0 {
-        return;
-    }
-    let files = Files {
-        normal: normal_fd,
-        redundant: redundant_fd,
     };
-    cut_files(
-        files,
-        &normal_name[..normal_size],
-        &redundant_name[..redundant_size],
-        callers,
-        ours,
-        state,
-    );
-    libc::close(normal_fd);
-    libc::close(redundant_fd);
+    let mut redundant_room = [0u8; MOST_NAME];
+    let redundant_name = text::arg(rt, 4, &mut redundant_room);
+    let Some(redundant) = window::open_file(rt, &mut err, redundant_name, b"REDUNDANT") else {
+        return;
+    };
+    let mut files = Files {
+        normal,
+        redundant,
+        normal_name: normal_name.unwrap_or(b""),
+        redundant_name: redundant_name.unwrap_or(b""),
+    };
+    cut_files(rt, &mut files, callers, ours, state);
 }
 
 // Which of two words an argument is. A longer one is neither.
-fn chosen(i: usize, first: &[u8], second: &[u8]) -> Chosen {
-    let mut word = [0u8; MOST_WORD];
-    let size = os::arg(i, &mut word);
-    text::chosen_of(&word[..size], first, second)
+fn chosen(rt: &HostRuntime, i: usize, first: &[u8], second: &[u8]) -> Chosen {
+    let mut room = [0u8; MOST_WORD];
+    text::chosen_of(text::arg(rt, i, &mut room).unwrap_or(b""), first, second)
+}
+
+// Says a line on standard error.
+fn say(rt: &HostRuntime, line: &[u8]) {
+    let mut err = rt.stderr();
+    text::say(&mut err, line);
 }
 
 // One line that says what the arguments are.
-fn usage() {
-    text::say(
+fn usage(rt: &HostRuntime) {
+    say(
+        rt,
         b"cut: the arguments are initiator strict|loose NORMAL REDUNDANT, or responder strict|loose NORMAL REDUNDANT OURS [CALLER ...]\n",
     );
 }
 
 // CUT-5: the id that an argument says. One that is missing or longer than the word's buffer is read as empty, which is no id.
-fn id_at(i: usize) -> Id {
-    let mut word = [0u8; MOST_WORD];
-    let size = os::arg(i, &mut word);
-    recording::id_of(&word[..size])
+fn id_at(rt: &HostRuntime, i: usize) -> Id {
+    let mut room = [0u8; MOST_WORD];
+    recording::id_of(text::arg(rt, i, &mut room).unwrap_or(b""))
 }
 
 // One line that says which argument is no id.
-fn say_no_id(i: usize) {
-    text::say(b"cut: argument ");
-    io::print_decimal(libc::STDERR_FILENO, i as u64);
-    text::say(b" is no id of eight hexadecimal digits\n");
+fn say_no_id(rt: &HostRuntime, i: usize) {
+    let mut number = [0u8; text::MOST_DIGITS];
+    let size = text::put_decimal(&mut number, 0, i as u64);
+    say(rt, b"cut: argument ");
+    say(rt, &number[..size]);
+    say(rt, b" is no id of eight hexadecimal digits\n");
 }
 
 // Room for the list: more bytes than the words of a command line fill. The `ensures` gives the length, which lending it asks for.
@@ -344,20 +370,23 @@ fn empty_list() -> [u8; 2097152]
 }
 
 // CUT-5: the callers' ids, one behind the other, at the front of a list.
-fn read_callers(list: &mut [u8]) -> Listed
+fn read_callers(rt: &HostRuntime, list: &mut [u8]) -> Listed
     ensures { result.size ≤ length list.old }
 {
-    let count = os::arg_count();
+    let count = text::arg_count(rt);
     let mut size: usize = 0;
     let mut i = FIRST_CALLER;
     while i < count {
-        let id = id_at(i);
+        let id = id_at(rt, i);
         if !id.right {
-            say_no_id(i);
+            say_no_id(rt, i);
             return Listed { size, right: false };
         }
         if list.len() - size < ID_SIZE {
-            text::say(b"cut: there are more callers than the list has room for\n");
+            say(
+                rt,
+                b"cut: there are more callers than the list has room for\n",
+            );
             return Listed { size, right: false };
         }
         field::write(list, size, ID_SIZE, id.id);
@@ -368,16 +397,16 @@ fn read_callers(list: &mut [u8]) -> Listed
 }
 
 // Cuts as a responder, who is told our own id and who may call.
-fn cut_called(list: &mut [u8], state: State) {
-    let ours = id_at(OURS);
+fn cut_called(rt: &HostRuntime, list: &mut [u8], state: State) {
+    let ours = id_at(rt, OURS);
     if !ours.right {
-        say_no_id(OURS);
+        say_no_id(rt, OURS);
         return;
     }
-    let listed = read_callers(list);
+    let listed = read_callers(rt, list);
     let size = listed.size;
     if listed.right {
-        cut_named(&list[..size], ours.id, state);
+        cut_named(rt, &list[..size], ours.id, state);
     }
 }
 
@@ -389,32 +418,32 @@ fn right_count(responder: bool, count: usize) -> bool {
     count == OURS
 }
 
-fn main() {
-    let responder = match chosen(1, b"responder", b"initiator") {
+fn main(rt: HostRuntime) {
+    let responder = match chosen(&rt, 1, b"responder", b"initiator") {
         Chosen::First => true,
         Chosen::Second => false,
         Chosen::Neither => {
-            usage();
+            usage(&rt);
             return;
         }
     };
-    let strict = match chosen(2, b"strict", b"loose") {
+    let strict = match chosen(&rt, 2, b"strict", b"loose") {
         Chosen::First => true,
         Chosen::Second => false,
         Chosen::Neither => {
-            usage();
+            usage(&rt);
             return;
         }
     };
-    if !right_count(responder, os::arg_count()) {
-        usage();
+    if !right_count(responder, text::arg_count(&rt)) {
+        usage(&rt);
         return;
     }
     let state = links::fresh_state(responder, strict);
     if !responder {
-        cut_named(b"", 0, state);
+        cut_named(&rt, b"", 0, state);
         return;
     }
     let mut list = empty_list();
-    cut_called(&mut list, state);
+    cut_called(&rt, &mut list, state);
 }

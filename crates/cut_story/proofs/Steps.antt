@@ -133,7 +133,7 @@ module _ (gateway : Gateway) (sent : List Packet) (normal_file redundant_file : 
     redundant_kept t e = ap (λ (l : Bool). cond l m.redundant (used_up m.redundant t)) e
 
     pub turn_after : (t : Taken) → Went gateway sent x.sequence m h normal normal_at redundant redundant_at ln lr t → NormalFirst (after normal redundant t m)
-    turn_after t (Went.Found-Nothing n r e) =
+    turn_after t (Went.found_nothing n r e) =
         inr
         (subst (λ (y : Taken). judgeable normal_file (after normal redundant y m).normal.used ≡ false) (sym e)
         (let same : m.normal.used ≡ m.normal.used + 0 = omega arith in subst (λ (k : ℕ). judgeable normal_file k ≡ false) same (sym seen ∙ n)))

@@ -17,7 +17,7 @@ use Rattle.links.specs.Table.{judgeable}
 use Rattle.recording.specs.Printed.{heading, line_of}
 use Rattle.recording.specs.Progress.{last_answer, counted_of}
 use Rattle.recording.specs.Cut.{Reach, reached_by, cut_from}
-use Rattle.recording.proofs.Steps.{goes_on}
+use Rattle.recording.proofs.Steps.{goes_on_lem}
 use Rattle.one_story.specs.Sequence.{Packet, Gateway}
 use Rattle.one_story.specs.Run.{Link, Moment, start, arrived_on, Lends, Drained, used_up, handed_by, after, step_of, Run}
 use Rattle.one_story.specs.OneStory.{RunOf, Whole, Supposed}
@@ -131,7 +131,7 @@ module _ (gateway : Gateway) (sent : List Packet) (normal_file redundant_file : 
     at_the_end n r e = record {
       lines = t ∷ [];
       text =
-          goes_on normal_file redundant_file gateway.callers gateway.ours (reach_at m)
+          goes_on_lem normal_file redundant_file gateway.callers gateway.ours (reach_at m)
           ∙ ap (λ (y : Taken). line_of y ++ (when last_answer y.answer answer end_of (reached_by y (reach_at m)).handed_up else printed (reached_by y (reach_at m)))) e
           ∙ ap (λ (z : Bool). line_of none ++ (when z answer end_of (reached_by none (reach_at m)).handed_up else printed (reached_by none (reach_at m)))) last_301
           ∙ ap (λ (k : ℕ). line_of none ++ end_of k) (not_counted (length m.handed) ∙ size)
@@ -167,7 +167,7 @@ module _ (gateway : Gateway) (sent : List Packet) (normal_file redundant_file : 
     goes_before e rest = record {
       lines = t ∷ rest.lines;
       text =
-          goes_on normal_file redundant_file gateway.callers gateway.ours (reach_at m)
+          goes_on_lem normal_file redundant_file gateway.callers gateway.ours (reach_at m)
           ∙ ap (λ (z : Bool). line_of t ++ (when z answer end_of (reached_by t (reach_at m)).handed_up else printed (reached_by t (reach_at m)))) e
           ∙ ap (λ (y : Reach). line_of t ++ printed y) (reach_after m t)
           ∙ ap (λ (l : List ℕ). line_of t ++ l) rest.text
@@ -186,7 +186,7 @@ module _ (gateway : Gateway) (sent : List Packet) (normal_file redundant_file : 
     fewer false one = let i = within then whole_then in omega (arith, one.packets, ap (λ (l : Link). l.packets) one.other, i.0, i.1)
 
     rest_by : Went gateway sent x.sequence m h normal_file m.normal.used redundant_file m.redundant.used ln lr t → (left then < left m → Rest then) → Rest m
-    rest_by (Went.Found-Nothing n r e) go = at_the_end n r e
+    rest_by (Went.found_nothing n r e) go = at_the_end n r e
     rest_by (Went.took link past e name one o) go =
         goes_before (goes_further t.answer o) (go (fewer link (named_one m normal_file redundant_file t link name one)))
 

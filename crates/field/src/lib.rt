@@ -1,4 +1,6 @@
 // Big-endian fields of w bytes in a slice: read and written, once over the width.
+#![tactic(auto)]
+
 ghost use Rattle.std.specs.Prelude.{◌≡◌, ◌+◌, ◌^◌, ◌<◌, ◌≤◌, length};
 ghost use Rattle.std.proofs.lemmas.List.Edits.{sets};
 ghost use Rattle.field.specs.Field.{field_of, bytes_of};

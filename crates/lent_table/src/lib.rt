@@ -1,4 +1,6 @@
 // A table of any size up to 65, for a program that owns its records: the first records of an array are lent to the call.
+#![tactic(auto)]
+
 ghost use Rattle.std.specs.Prelude.{◌≡◌, [], ◌≤◌, take, drop};
 ghost use Rattle.connection.specs.Connection.{no_count};
 ghost use Rattle.calls.specs.declared.Call.{Call};
@@ -14,7 +16,7 @@ use connection::{Connection, Settings};
 pub const RECORDS: usize = 65;
 
 // A call's answer, and the records that it leaves.
-#[derive(Drop)]
+#[derive(Clone, Copy)]
 pub struct Returned {
     pub answer: Answer,
     pub table: [Connection; RECORDS],

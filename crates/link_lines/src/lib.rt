@@ -1,4 +1,6 @@
 // The lines of inputs on a link: one step over two links, and one packet that is written.
+#![tactic(auto)]
+
 mod one_packet;
 mod one_step;
 

@@ -15,7 +15,7 @@ const FIELDS_SIZE: usize = 10;
 const MOST_ROOM: usize = 65535;
 
 // The fields of a packet in the file.
-#[derive(Drop)]
+#[derive(Clone, Copy)]
 struct Packet {
     link: u8,
     version: u8,

@@ -25,7 +25,7 @@ const STRICT: u8 = 8;
 const FIRST: u8 = 16;
 
 // The fields of a step in the file.
-#[derive(Drop)]
+#[derive(Clone, Copy)]
 struct Step {
     flags: u8,
     last: u16,

@@ -5,7 +5,7 @@ use mathlib.Core.Path.{◌≡◌, refl, sym, ap, ap₂, ◌∙◌, subst}
 use mathlib.Core.Bool.{Bool, true, false, not, ◌&&◌, ◌||◌, false≢true}
 use mathlib.Core.List.Memᴰ
 use mathlib.Core.List.{List, [], ◌∷◌, ◌++◌, Memᴰ}
-use mathlib.Core.Logic.{◌⊎◌, ⊎_elim}
+use mathlib.Core.Logic.{⊎_elim}
 use native.Mathlib.Nat.{div-eq_of_lt}
 use native.Mathlib.Omega.{arith}
 use borrow.Author.Tests.{eq-eqb, eqb-true, not-false}
@@ -13,16 +13,16 @@ use lib.Arith.{digits_div}
 use lib.Dec.{eqb}
 use lib.ListN.{length, length-append, replicate}
 use Rattle.rules.specs.Rows.{when◌answer◌else◌}
-use Rattle.field.specs.Row.{fields_of, row_of, width_of, FitsRow}
+use Rattle.field.specs.Row.{fields_of, row_of, width_of}
 use Rattle.field.proofs.Row.{fields_of_row, length_row}
-use Rattle.packet.specs.Packet.{packet_header_at, user_data_at, PacketOn}
+use Rattle.packet.specs.Packet.{packet_header_at, user_data_at}
 use Rattle.packet.specs.declared.Header.{Header}
 use Rattle.packet_types.specs.Types.{au1, caller_of, called_of, classes_of, in_class_d, opening_fault}
 use Rattle.links.specs.declared.State.{State}
 use Rattle.links.specs.declared.Taken.{Taken}
 use Rattle.links.specs.Taken.{fresh_state, handed_up}
 use Rattle.links.specs.Callers.{id_size, callers_of, is_one_of, listed, not_allowed}
-use Rattle.links.specs.Table.{held, opening_of, not_opening, link_rows, class_d_rows, rows_of, taken_of, user_data_of}
+use Rattle.links.specs.Table.{held, not_opening, link_rows, class_d_rows, rows_of, taken_of, user_data_of}
 use Rattle.links.proofs.Bools.{both_false}
 use Rattle.links.proofs.ClassRows.{row_allowed}
 use Rattle.links.proofs.LinkRows.{row_class}

@@ -10,7 +10,7 @@ use lib.ListN.{length}
 use Rattle.links.specs.declared.State.{State}
 use Rattle.links.specs.declared.Taken.{Taken}
 use Rattle.links.specs.Taken.{down_of}
-use Rattle.links.specs.Table.{judgeable, held, both_down, rows_of, taken_of}
+use Rattle.links.specs.Table.{judgeable, held, both_down, taken_of}
 use Rattle.link_promises.specs.Promises.{of_link, links_up, link_bytes, link_place, GoesForward}
 use Rattle.links.proofs.Bools.{both_true}
 use Rattle.link_promises.proofs.Outcome.{by_rows, by_step}

@@ -29,7 +29,8 @@ SameIds callers callers' =
 abbrev pub SameStep : List ℕ → ℕ → List ℕ → ℕ → State → Type 0
 SameStep callers ours callers' ours' state =
     (normal : List ℕ) (normal_at : ℕ) (redundant : List ℕ) (redundant_at : ℕ)
-    → taken_of normal normal_at redundant redundant_at callers ours state ≡ taken_of normal normal_at redundant redundant_at callers' ours' state
+    → taken_of normal normal_at redundant redundant_at callers ours state
+    ≡ taken_of normal normal_at redundant redundant_at callers' ours' state
 
 -- LINK-SET: only which ids are on the list counts
 abbrev pub OnlyIdsCount : Type 0

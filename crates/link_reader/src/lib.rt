@@ -1,4 +1,6 @@
 // Readers of links: a lent slice with a cursor, and the functions of `links` over two of them.
+#![tactic(auto)]
+
 ghost use Rattle.std.specs.Prelude.{◌≡◌};
 ghost use Rattle.links.specs.Place.{user_data_place};
 ghost use Rattle.links.specs.Table.{taken_of, user_data_of};

@@ -8,11 +8,11 @@ use Rattle.links.specs.declared.Taken.{Taken}
 -- LINK-PART: the place of a part of a slice, so many bytes behind the slice's own place, in the same block of memory; where the part
 -- does not lie within, the slice's own
 abbrev pub part_place : Bor (List ℕ) → ℕ → ℕ → ℕ × ℕ
-part_place s start size = when (leb (start + size) (length s.now)) answer (s.ptr.0, s.ptr.1 + start) else s.ptr
+part_place s start size = when (leb (start + size) (length s.now)) answer (s.ref_ptr.0, s.ref_ptr.1 + start) else s.ref_ptr
 
 -- LINK-PART: the place of what is handed up; LINK-EMPTY: the empty part of another answer stands at the front of the normal link's
 -- slice
 unfoldable pub user_data_place : Bor (List ℕ) → Bor (List ℕ) → Taken → ℕ × ℕ
 user_data_place normal redundant taken =
     when (eqb taken.answer 0) answer part_place (cond taken.normal normal redundant) taken.start taken.size else
-    normal.ptr
+    normal.ref_ptr

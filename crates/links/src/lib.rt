@@ -1,4 +1,6 @@
 // Taking one packet from two links: the table LINK-308 .. LINK-0 over two lent slices, a place in each, a list of callers and a state.
+#![tactic(auto)]
+
 ghost use Rattle.std.specs.Prelude.{◌≡◌, true, false, List, ℕ, ◌+◌, ◌^◌, ◌≤◌, ◌<◌, length};
 ghost use Rattle.field.specs.Row.{width_of};
 ghost use Rattle.packet.specs.Sizes.{packet_header_size, least_length};
@@ -14,7 +16,7 @@ use packet::Header;
 use packet_types::{AU1, AU2};
 
 // The links that are up, the role, the setting, whether the first packet is still awaited, and the number last handed up.
-#[derive(Drop)]
+#[derive(Clone, Copy)]
 pub struct State {
     pub normal_up: bool,
     pub redundant_up: bool,
@@ -26,7 +28,7 @@ pub struct State {
 
 // LINK-USED: what one step answers, the link that it names and how many of its bytes are used; of what is handed up its place in
 // that link's slice, and its fields.
-#[derive(Drop)]
+#[derive(Clone, Copy)]
 pub struct Taken {
     pub answer: u16,
     pub normal: bool,

@@ -31,8 +31,8 @@ data_of s = drop header_size s
 -- MSG-DATA: and stands there in the message's own memory; the empty part of shorter bytes stands at their front
 unfoldable pub data_place : Bor (List ℕ) → ℕ × ℕ
 data_place s =
-    when ltb (length s.now) header_size answer s.ptr else
-    (s.ptr.0, s.ptr.1 + header_size)
+    when ltb (length s.now) header_size answer s.ref_ptr else
+    (s.ref_ptr.0, s.ref_ptr.1 + header_size)
 
 -- Malformed: MSG-PAIR, which `offset_read` says of a pair; MSG-LISTED, which `lists` says of a type and a total; MSG-LATER; MSG-CHECK.
 

@@ -1,4 +1,6 @@
 // Messages inside: the six types of message (MSG-1 to MSG-6), and how bytes are taken apart.
+#![tactic(auto)]
+
 ghost use Rattle.std.specs.Prelude.{◌≡◌, ◌+◌, ◌^◌, ◌<◌, ◌≤◌, length};
 ghost use Rattle.field.specs.Row.{width_of};
 ghost use Rattle.message.specs.Table.{header_size, offset_size, message_row, table_of, lists, total_of};
@@ -42,7 +44,7 @@ pub const OFFSET_SIZE: usize = 5;
 pub const MAX_AT: usize = HEADER_SIZE + OFFSET_SIZE;
 
 // What each message begins with (MSG-HEAD).
-#[derive(Drop)]
+#[derive(Clone, Copy)]
 pub struct Header {
     pub kind: u8,
     pub number: u16,
@@ -54,7 +56,7 @@ pub struct Header {
 
 // What a message has after its header; data is how many bytes of application data. What its type does not have is 0
 // (MSG-FIELDS).
-#[derive(Drop)]
+#[derive(Clone, Copy)]
 pub struct Tail {
     pub period: u32,
     pub min: Offset,
@@ -64,21 +66,21 @@ pub struct Tail {
 }
 
 // Any bytes are a message with its fields or malformed.
-#[derive(Drop)]
+#[derive(Clone, Copy)]
 pub enum Parsed {
     Whole(Header, Tail),
     Malformed,
 }
 
 // A tail as read; Malformed by MSG-PAIR.
-#[derive(Drop)]
+#[derive(Clone, Copy)]
 pub enum TailRead {
     Is(Tail),
     Malformed,
 }
 
 // What stands after the header, by the type's row.
-#[derive(Drop)]
+#[derive(Clone, Copy)]
 pub enum After {
     Period,
     Nothing,
@@ -88,7 +90,7 @@ pub enum After {
 }
 
 // A row of the table of types, with the least and the most total.
-#[derive(Drop)]
+#[derive(Clone, Copy)]
 pub struct Listed {
     pub after: After,
     pub least: usize,

@@ -1,4 +1,6 @@
 // The lines of messages inside: one that is taken apart and written back, and one that is written from its fields.
+#![tactic(auto)]
+
 mod one_message;
 mod one_write;
 

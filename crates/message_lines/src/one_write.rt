@@ -15,7 +15,7 @@ use text::Done;
 const FIELDS_SIZE: usize = 36;
 
 // The fields of a message in the file.
-#[derive(Drop)]
+#[derive(Clone, Copy)]
 struct Write {
     kind: u8,
     number: u16,

@@ -1,4 +1,6 @@
 // Writing a message: its bytes at the start of an out buffer, or none.
+#![tactic(auto)]
+
 ghost use Rattle.std.specs.Prelude.{◌≡◌, ◌+◌, ◌^◌, ◌<◌, ◌≤◌, length};
 ghost use Rattle.std.proofs.lemmas.List.Edits.{sets};
 ghost use Rattle.message.specs.Table.{header_size, offset_size};

@@ -1,4 +1,6 @@
 // The 16-bit numbers of packets and messages, which run on past 65,535 to 0.
+#![tactic(auto)]
+
 ghost use Rattle.std.specs.Prelude.{◌≡◌};
 ghost use Rattle.number.specs.Number.{distance_of, next_of};
 

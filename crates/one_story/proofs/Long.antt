@@ -84,7 +84,7 @@ module _ (gateway : Gateway) (sent : List Packet) (q : Sequence gateway sent) wh
 
       by : (t : Taken) → Went gateway sent q m h m.normal.arrived m.normal.used m.redundant.arrived m.redundant.used refl refl t
           → OneMore link m (after m.normal.arrived m.redundant.arrived t m)
-      by t (Went.Found-Nothing n r _) = absurd (false≢true (sym (none link n r) ∙ e))
+      by t (Went.found_nothing n r _) = absurd (false≢true (sym (none link n r) ∙ e))
       by t (Went.took looked past f name one _) =
           named_one m m.normal.arrived m.redundant.arrived t link (name ∙ same looked link past f d e) one
 

@@ -25,6 +25,7 @@ use Rattle.one_story.proofs.Runs.{ltb_by, normal_of, redundant_of, Teller, holds
 
 -- the places are from the first on and before the end
 within : (from end place : ℕ) (places : List ℕ) → InOrder from end places → Memᴰ place places → (from ≤ place) × (place < end)
+within from end place [] o x = elim x [ ]
 within from end place (p ∷ ps) o (Memᴰ.head e) = (omega (arith, o.0, e), omega (arith, o.1, e))
 within from end place (p ∷ ps) o (Memᴰ.tail i) = let r = within (suc p) end place ps o.2 i in (omega (arith, r.0, o.0), r.1)
 
@@ -41,6 +42,9 @@ passed_before from end (suc (suc k)) (p ∷ ps) o l = passed_before (suc p) end 
 
 -- and a place between is none that the link brings
 between : (from end k place : ℕ) (kept : List ℕ) → InOrder from end kept → k < length kept → passed_by kept k ≤ place → place < get_or kept k 0 → Memᴰ place kept → ⊥
+between from end zero place [] o l h g _ = elim l [ ]
+between from end (suc zero) place [] o l h g _ = elim l [ ]
+between from end (suc (suc k)) place [] o l h g _ = elim l [ ]
 between from end zero place (p ∷ ps) o l h g (Memᴰ.head e) = omega (arith, e)
 between from end zero place (p ∷ ps) o l h g (Memᴰ.tail i) = omega (arith, (within (suc p) end place ps o.2 i).0)
 between from end (suc zero) place (p ∷ ps) o l h g (Memᴰ.head e) = omega (arith, e)
@@ -61,6 +65,7 @@ one_more_lem from end place [] o h g = (h, omega arith, tt)
 one_more_lem from end place (p ∷ ps) o h g = (o.0, omega (arith, o.1), one_more_lem (suc p) end place ps o.2 (omega (arith, o.1)) g)
 
 longer_mem : (place last : ℕ) (places : List ℕ) → Memᴰ place places → Memᴰ place (places ++ (last ∷ []))
+longer_mem place last [] x = elim x [ ]
 longer_mem place last (p ∷ ps) (Memᴰ.head e) = Memᴰ.head e
 longer_mem place last (p ∷ ps) (Memᴰ.tail i) = Memᴰ.tail (longer_mem place last ps i)
 

@@ -92,17 +92,17 @@ record Goes (gateway : Gateway) (sent : List Packet) (lag : ℕ) (live : Bool) (
   drained : Drained (link_of (not live) n)
   near : NotFarBehind lag n live
 
-goes_on : (gateway : Gateway) (sent : List Packet) (lag : ℕ) (live : Bool) (m : Moment) → Goes gateway sent lag live m
+goes_on_lem : (gateway : Gateway) (sent : List Packet) (lag : ℕ) (live : Bool) (m : Moment) → Goes gateway sent lag live m
     → {n : Moment} → Onward gateway sent live m n → Goes gateway sent lag live n
-goes_on gateway sent lag live m g Onward.here = g
-goes_on gateway sent lag true m g (Onward.arrives {n} x piece rest e) =
-    let h = goes_on gateway sent lag true m g x in
+goes_on_lem gateway sent lag live m g Onward.here = g
+goes_on_lem gateway sent lag true m g (Onward.arrives {n} x piece rest e) =
+    let h = goes_on_lem gateway sent lag true m g x in
     record { run = Run.arrives h.run true piece rest e; drained = h.drained; near = h.near }
-goes_on gateway sent lag false m g (Onward.arrives {n} x piece rest e) =
-    let h = goes_on gateway sent lag false m g x in
+goes_on_lem gateway sent lag false m g (Onward.arrives {n} x piece rest e) =
+    let h = goes_on_lem gateway sent lag false m g x in
     record { run = Run.arrives h.run false piece rest e; drained = h.drained; near = h.near }
-goes_on gateway sent lag live m g (Onward.steps {n} x normal normal_at redundant redundant_at ln lr) =
-    let h = goes_on gateway sent lag live m g x in
+goes_on_lem gateway sent lag live m g (Onward.steps {n} x normal normal_at redundant redundant_at ln lr) =
+    let h = goes_on_lem gateway sent lag live m g x in
     let t = step_of gateway normal normal_at redundant redundant_at n in
     let e = stays gateway n normal normal_at redundant redundant_at ln lr live t (spares gateway n normal normal_at redundant redundant_at ln lr live h.drained) in
     record {
@@ -119,4 +119,4 @@ goes_on gateway sent lag live m g (Onward.steps {n} x normal normal_at redundant
     reach a b a' b' h e g = omega arith
 
 pub silence_covered : SilenceCovered
-silence_covered gateway sent lag m x live d near n o = (goes_on gateway sent lag live m (record { run = x; drained = d; near = near }) o).run
+silence_covered gateway sent lag m x live d near n o = (goes_on_lem gateway sent lag live m (record { run = x; drained = d; near = near }) o).run

@@ -1,10 +1,10 @@
 -- The worked runs, by computation.
 -- Assumes nothing.
-use Prim.Native.Nat.{ℕ, ◌+◌, ◌≤◌, ◌<◌}
+use Prim.Native.Nat.{ℕ, ◌≤◌, ◌<◌}
 use mathlib.Core.Path.{◌≡◌, refl, sym, ap, ◌∙◌, subst}
 use mathlib.Core.Bool.{Bool, true, false, cond, false≢true}
 use mathlib.Core.List.{List, [], ◌∷◌, ◌++◌, Memᴰ}
-use mathlib.Core.Logic.{◌⊎◌, inl, inr, ⊎_elim}
+use mathlib.Core.Logic.{inl, inr, ⊎_elim}
 use native.Mathlib.Omega.{arith}
 use lib.Dec.{lit<, lit≤}
 use lib.ListN.{length, take, drop, get_or}
@@ -249,6 +249,7 @@ not_two : (place : ℕ) → Memᴰ place (0 ∷ 1 ∷ 3 ∷ []) → place < 3 �
 not_two place (Memᴰ.head e) h = omega (arith, e)
 not_two place (Memᴰ.tail (Memᴰ.head e)) h = omega (arith, e)
 not_two place (Memᴰ.tail (Memᴰ.tail (Memᴰ.head e))) h = let none : ⊥ = omega (arith, e) in absurd none
+not_two place (Memᴰ.tail (Memᴰ.tail (Memᴰ.tail x))) h = elim x [ ]
 
 even_run : Even (even 42 3 42 3 (0 ∷ 1 ∷ 3 ∷ []))
 unfolding judgeable length_fault field_of
@@ -273,6 +274,7 @@ worked_both_lose = record { kept = three_kept; bytes = three_right; steps = even
 
 -- the number of a packet at one of these places is among their packets' numbers
 number_there : (place : ℕ) (places : List ℕ) → Memᴰ place places → Memᴰ (get_or four place no_packet).number (numbers_of (packets_at four places))
+number_there place [] x = elim x [ ]
 number_there place (p ∷ ps) (Memᴰ.head e) = Memᴰ.head (ap (λ (j : ℕ). (get_or four j no_packet).number) e)
 number_there place (p ∷ ps) (Memᴰ.tail i) = Memᴰ.tail (number_there place ps i)
 
@@ -280,6 +282,7 @@ not_there : Memᴰ {A = ℕ} 2 (0 ∷ 1 ∷ 3 ∷ []) → ⊥
 not_there (Memᴰ.head e) = omega (arith, e)
 not_there (Memᴰ.tail (Memᴰ.head e)) = omega (arith, e)
 not_there (Memᴰ.tail (Memᴰ.tail (Memᴰ.head e))) = omega (arith, e)
+not_there (Memᴰ.tail (Memᴰ.tail (Memᴰ.tail x))) = elim x [ ]
 
 pub late_is_missing : LateIsMissing
 late_is_missing claim =

@@ -7,7 +7,7 @@ use native.Mathlib.Omega.{arith}
 use lib.Bits.{bit_xor, xor_zero_l, xor_mod, xor_shr}
 use Rattle.packet.specs.Check.{polynomial, bit_in, bits_in, byte_in}
 use Rattle.packet.proofs.Xor.{xor_odd, xor_half, xor_four}
-use Rattle.packet.proofs.Linear.{Linear, linear_same, linear_xor, linear_after, linear_right, linear_left, linear_lowest, at_powers, agree}
+use Rattle.packet.proofs.Linear.{Linear, linear_same, linear_xor, linear_after, linear_right, linear_left, linear_lowest, agree}
 
 -- ---- the byte step, in the words of the code, each with its law
 -- how far above the byte's bits x^0 and x^5 come to stand, and how far below them x^12; how many bits later x^12 asks for the polynomial once more
@@ -115,13 +115,13 @@ linear_bits v w =
     ∙ bits_through 8 (register_of v) (register_of w) (byte_of v) (byte_of w)
 
 -- ---- PKT-CHECK: the law
-as_one : (w : ℕ) → w < 2 ^ 24 → byte_step (register_of w) (byte_of w) ≡ byte_in (register_of w) (byte_of w)
-unfolding bit_in bits_in
-as_one = agree (λ w. byte_step (register_of w) (byte_of w)) (λ w. byte_in (register_of w) (byte_of w)) linear_step linear_bits 24 refl
-
 pub eight_bits_are_one_byte : (register byte : ℕ) → register < 2 ^ 16 → byte < 2 ^ 8 → byte_step register byte ≡ byte_in register byte
+unfolding bit_in bits_in
 eight_bits_are_one_byte r b h k =
-    sym (ap₂ byte_step low high) ∙ as_one (b * 2 ^ 16 + r) (omega arith) ∙ ap₂ byte_in low high
+    sym (ap₂ byte_step low high)
+    ∙ agree (λ w. byte_step (register_of w) (byte_of w)) (λ w. byte_in (register_of w) (byte_of w)) linear_step linear_bits 24 refl
+    (b * 2 ^ 16 + r) (omega arith)
+    ∙ ap₂ byte_in low high
   where
     low : register_of (b * 2 ^ 16 + r) ≡ r
     low = omega arith

@@ -37,7 +37,7 @@ user_data_at s at = take ((packet_header_at s at).length - least_length) (drop (
 
 -- LINK-PART: and where it stands in the link's own memory
 abbrev pub user_data_place_at : Bor (List ℕ) → ℕ → ℕ × ℕ
-user_data_place_at s at = (s.ptr.0, s.ptr.1 + (at + packet_header_size))
+user_data_place_at s at = (s.ref_ptr.0, s.ref_ptr.1 + (at + packet_header_size))
 
 -- PKT-FLAG: the normal link's flag
 abbrev pub normal_flag : ℕ

@@ -1,11 +1,13 @@
 // Packets on a link: the header's fields and its check, and the user data behind it.
+#![tactic(auto)]
+
 ghost use Rattle.std.specs.Prelude.{◌≡◌, ◌+◌, ◌≤◌, length};
 ghost use Rattle.packet.specs.Sizes.{packet_header_size, least_length, packet_size, checked_bytes};
 ghost use Rattle.packet.specs.Check.{byte_in};
 ghost use Rattle.packet.specs.Packet.{packet_header_at, check_at, user_data_at, user_data_place_at, flag_of};
 
 // PKT-LAYOUT: the bytes after this field, version, application type, transport number, N/R flag, packet type, check.
-#[derive(Drop)]
+#[derive(Clone, Copy)]
 pub struct Header {
     pub length: u16,
     pub version: u8,

@@ -1,4 +1,6 @@
 // The packet types: one constant table, with the service classes, links and payload rules of each (PKT-TABLE).
+#![tactic(auto)]
+
 ghost use Rattle.std.specs.Prelude.{◌≡◌};
 ghost use Rattle.packet_types.specs.Types.{type_row, has_class_d, has_link, unwanted_data, numbered_zero};
 ghost use Rattle.packet_types.specs.Types.{in_class_d, opens, opening_fault, not_class_d};

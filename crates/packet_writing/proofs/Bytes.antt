@@ -46,14 +46,14 @@ module _ (counted version application number flag kind : ℕ) where
         ap (take checked_bytes) (fields ∙ sets-eq row l 0 (omega (arith, checked_length)))
         ∙ take_at row (drop (0 + length row) l) checked_bytes checked_length
 
-    is_right : check ≡ check_for six
-    is_right = right ∙ ap check_of first_eight
+    is_right_lem : check ≡ check_for six
+    is_right_lem = right ∙ ap check_of first_eight
 
     pub stored : l''' ≡ sets l 0 (row_of packet_widths (six ++ (check_for six ∷ [])) ++ user_data)
     stored =
         ends
         ∙ ap (λ (x : List ℕ). sets x packet_header_size user_data) (checked ∙ ap (λ (x : List ℕ). sets x checked_bytes (bytes_of 2 check)) fields)
-        ∙ sym (ap (sets l 0) (ap (λ (c : ℕ). row_of packet_widths (six ++ (c ∷ [])) ++ user_data) (sym is_right) ∙ row_split check user_data)
+        ∙ sym (ap (sets l 0) (ap (λ (c : ℕ). row_of packet_widths (six ++ (c ∷ [])) ++ user_data) (sym is_right_lem) ∙ row_split check user_data)
         ∙ stores_append row (bytes_of 2 check ++ user_data) l 0
         ∙ ap (λ (k : ℕ). sets (sets l 0 row) k (bytes_of 2 check ++ user_data)) (omega (arith, checked_length))
         ∙ stores_append (bytes_of 2 check) user_data (sets l 0 row) checked_bytes

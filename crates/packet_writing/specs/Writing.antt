@@ -42,7 +42,8 @@ write_answer room number kind user_data =
 -- PKT-0: what `write` answers, and how many bytes it wrote; PKT-NONE: none where it refuses.
 unfoldable pub packet_written : ℕ → ℕ → ℕ → List ℕ → Written
 packet_written room number kind user_data =
-    when (eqb (write_answer room number kind user_data) 0) answer (record { answer = 0; written = packet_header_size + length user_data }) else
+    when (eqb (write_answer room number kind user_data) 0) answer
+    (record { answer = 0; written = packet_header_size + length user_data }) else
     record { answer = write_answer room number kind user_data; written = 0 }
 
 -- PKT-0: the bytes that it wrote, from the front of the out buffer; PKT-NONE: none where it refuses.

@@ -1,4 +1,6 @@
 // Writing a packet for a link: its bytes at the front of an out buffer, or why there are none.
+#![tactic(auto)]
+
 ghost use Rattle.std.specs.Prelude.{◌≡◌, ◌+◌, ◌≤◌, length};
 ghost use Rattle.std.proofs.lemmas.List.Edits.{sets};
 ghost use Rattle.packet.specs.Sizes.{packet_header_size, most_user_data, checked_bytes};
@@ -7,7 +9,7 @@ ghost use Rattle.packet_writing.specs.Writing.{checked_row, packet_bytes, write_
 use packet::{CHECKED_BYTES, LEAST_LENGTH, MOST_USER_DATA, PACKET_HEADER_SIZE};
 
 // The answer to writing a packet, and how many bytes were written.
-#[derive(Drop)]
+#[derive(Clone, Copy)]
 pub struct Written {
     pub answer: u16,
     pub written: usize,

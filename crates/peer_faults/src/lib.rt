@@ -1,4 +1,6 @@
 // The peer's faults of one message, in PEER-ORDER's order: whether its type is expected, and the first fault of one that is.
+#![tactic(auto)]
+
 ghost use Rattle.std.specs.Prelude.{◌≡◌};
 ghost use Rattle.clock.specs.Clock.{no_age, verdict_number};
 ghost use Rattle.peer_faults.specs.Faults.{
@@ -26,7 +28,7 @@ use message::{
 use number::BEHIND_FROM;
 
 // PEER-211: whether a message's type is the one awaited; if not, in set-up released.
-#[derive(Drop)]
+#[derive(Clone, Copy)]
 pub enum Expectation {
     Expected,
     Unexpected,
@@ -34,14 +36,14 @@ pub enum Expectation {
 }
 
 // AGE-7: what the time check finds of a message: its age, and the verdict on it.
-#[derive(Drop)]
+#[derive(Clone, Copy)]
 pub struct TimeCheck {
     pub age: Age,
     pub verdict: Verdict,
 }
 
 // The first fault of a message.
-#[derive(Drop)]
+#[derive(Clone, Copy)]
 pub struct Fault {
     // 0 where there is none.
     pub number: u16,

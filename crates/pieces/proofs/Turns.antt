@@ -1,6 +1,6 @@
 -- Each turn uses bytes up or stops, so that a turn for each byte and one at the end are enough.
 -- Assumes nothing.
-use Prim.Native.Nat.{ℕ, zero, suc, ◌+◌, ◌-◌, ◌≤◌}
+use Prim.Native.Nat.{ℕ, zero, suc, ◌-◌, ◌≤◌}
 use mathlib.Core.Path.{◌≡◌, refl, sym, ap, ◌∙◌}
 use mathlib.Core.Bool.{Bool, true, false, cond, ◌||◌, false≢true}
 use mathlib.Core.List.{List, [], ◌++◌}
@@ -93,9 +93,9 @@ module _ (m : Machine) (laws : Lawful m) where
       let j : suc (length rest) ≤ suc k = rw e at g in
       ap (λ (t : List ℕ). (m.turn p rest).text ++ t) (enough n k next left (rw size (omega arith)) (rw size (omega arith))))
 
-  pub goes_on : GoesOn m
+  pub goes_on_lem : GoesOn m
   unfolding prints_in
-  goes_on p rest =
+  goes_on_lem p rest =
       let next = (m.turn p rest).next in
       let left = drop (m.turn p rest).used rest in
       let fewer = fewer_left p rest (length rest) (omega arith) in

@@ -33,11 +33,11 @@ use Rattle.pieces.specs.Pieces.{
   PrintedWhole,
 }
 use Rattle.pieces.specs.Pieces.Runs.{starts, refills, advances}
-use Rattle.pieces.proofs.Turns.{goes_on, not_stopped, not_low}
+use Rattle.pieces.proofs.Turns.{goes_on_lem, not_stopped, not_low}
 use Rattle.pieces.proofs.Reaches.{advanced_lies, advanced_within, ended_stays}
 
 -- a window that is topped up lies in its buffer
-topped_lies : (most : ℕ) (before : List ℕ) (w : Window) (after : List ℕ) (r : Refilled) → length after ≡ length before
+pub topped_lies : (most : ℕ) (before : List ℕ) (w : Window) (after : List ℕ) (r : Refilled) → length after ≡ length before
     → ToppedUp most before w after r → Within w (length before) → Within r.window (length after)
 topped_lies most before w after r size up lies = by (low_of most w) refl
   where
@@ -67,7 +67,7 @@ module _ (m : Machine) (laws : Lawful m) where
       → prints_from m p rest ≡ (m.turn p rest).text ++ prints_from m (m.turn p rest).next (drop (m.turn p rest).used rest)
   going p rest e =
       let t = m.turn p rest in
-      goes_on m laws p rest ∙ ap (λ (b : Bool). when b answer [] else (t.text ++ prints_from m t.next (drop t.used rest))) e
+      goes_on_lem m laws p rest ∙ ap (λ (b : Bool). when b answer [] else (t.text ++ prints_from m t.next (drop t.used rest))) e
 
   -- A reach from which the rest of a text is printed: what it printed, and what is printed from there on for the bytes at hand and those
   -- still to be read.
@@ -151,7 +151,7 @@ module _ (m : Machine) (laws : Lawful m) where
       let rest = unread buffer w ++ to_read in
       let t = m.turn p rest in
       let none : prints_from m p rest ≡ [] =
-      goes_on m laws p rest ∙ ap (λ (b : Bool). when b answer [] else (t.text ++ prints_from m t.next (drop t.used rest))) stopped in
+      goes_on_lem m laws p rest ∙ ap (λ (b : Bool). when b answer [] else (t.text ++ prints_from m t.next (drop t.used rest))) stopped in
       sym (append-nil printed) ∙ ap (λ (l : List ℕ). printed ++ l) (sym none) ∙ (prints file run).whole
 
   -- ---- the pieces of a program

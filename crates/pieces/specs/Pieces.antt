@@ -71,7 +71,8 @@ abbrev pub AdvancesAgree : Machine → Type 0
 AdvancesAgree m =
     (buffer : List ℕ) (p : m.State) (w : Window) (lent before : List ℕ) (at : ℕ) (lent_after lent_after' after after' : List ℕ)
     (q q' : m.State) (v v' : Window) (next next' : ℕ)
-    → AdvancedTo m buffer p w lent before at lent_after after q v next → AdvancedTo m buffer p w lent before at lent_after' after' q' v' next'
+    → AdvancedTo m buffer p w lent before at lent_after after q v next
+    → AdvancedTo m buffer p w lent before at lent_after' after' q' v' next'
     → (q ≡ q') × (v ≡ v') × (next ≡ next') × (lent_after ≡ lent_after') × (after ≡ after')
 
 -- A run of a machine on a file through a window: the buffer, the window on the bytes at hand, the bytes of the file that are still to be

@@ -87,8 +87,8 @@ gone r z = record { zero = λ _. z; valid = λ f. no_way (sym r ∙ f) }
 stays_ageless : Ageless Stays
 stays_ageless age o s = record { zero = s.zero; valid = s.valid }
 
-goes_on : {o : Outcome} → o.released ≡ false → Valid o.next → Stays o
-goes_on r v = record { zero = λ t. no_way (sym t ∙ r); valid = λ _. v }
+goes_on_lem : {o : Outcome} → o.released ≡ false → Valid o.next → Stays o
+goes_on_lem r v = record { zero = λ t. no_way (sym t ∙ r); valid = λ _. v }
 
 module _ (c : Connection) (s : Sound c) where
   no_errors : leb c.settings.limit 0 ≡ false
@@ -97,18 +97,18 @@ module _ (c : Connection) (s : Sound c) where
   taken_stays : (now : Count) (h : Header) (t : Tail) → Stays (message_taken c now h t)
   unfolding message_taken start_taken answ1_taken answ2_taken est_taken end_taken data_taken ◌outside◌to◌
   taken_stays now h t =
-      both Stays (eqb h.kind offset_start) _ _ (λ _. goes_on refl (inr (sound_is _ s.settings refl s.errors))) (λ _.
-      both Stays (eqb h.kind offset_answ1) _ _ (λ _. goes_on refl (inr (sound_is _ s.settings refl s.errors))) (λ _.
-      both Stays (eqb h.kind offset_answ2) _ _ (λ _. goes_on refl (inr (sound_is _ s.settings refl s.errors))) (λ _.
-      both Stays (eqb h.kind offset_est) _ _ (λ _. goes_on refl (inr (sound_is _ s.settings refl s.errors))) (λ _.
-      both Stays (eqb h.kind offset_end) _ _ (λ _. goes_on refl (inr (sound_is _ s.settings refl s.errors))) (λ _.
-      goes_on refl (inr (sound_is _ s.settings s.phase no_errors)))))))
+      both Stays (eqb h.kind offset_start) _ _ (λ _. goes_on_lem refl (inr (sound_is _ s.settings refl s.errors))) (λ _.
+      both Stays (eqb h.kind offset_answ1) _ _ (λ _. goes_on_lem refl (inr (sound_is _ s.settings refl s.errors))) (λ _.
+      both Stays (eqb h.kind offset_answ2) _ _ (λ _. goes_on_lem refl (inr (sound_is _ s.settings refl s.errors))) (λ _.
+      both Stays (eqb h.kind offset_est) _ _ (λ _. goes_on_lem refl (inr (sound_is _ s.settings refl s.errors))) (λ _.
+      both Stays (eqb h.kind offset_end) _ _ (λ _. goes_on_lem refl (inr (sound_is _ s.settings refl s.errors))) (λ _.
+      goes_on_lem refl (inr (sound_is _ s.settings s.phase no_errors)))))))
 
 -- one error more, under the limit or released
 raised_stays : (d : Connection) (k n : ℕ) → Sound d → Stays (raised d k n)
 unfolding raised
 raised_stays d k n s =
-    both Stays (leb d.settings.limit (d.errors + 1)) _ _ (λ _. gone refl refl) (λ e. goes_on refl (inr (sound_is _ s.settings s.phase e)))
+    both Stays (leb d.settings.limit (d.errors + 1)) _ _ (λ _. gone refl refl) (λ e. goes_on_lem refl (inr (sound_is _ s.settings s.phase e)))
 
 -- what is not refused is sound
 not_bad : (c : Connection) → close_refusal c ≡ 0 → Sound c
@@ -146,14 +146,14 @@ clocked_sound c now s = record { settings = s.settings; phase = s.phase; errors 
 pub receive_stays : (c : Connection) (now : Count) (message : List ℕ) (room : ℕ) → Valid c → Stays (receive_outcome c now message room)
 unfolding refusing
 receive_stays c now message room v =
-    receive_by Stays stays_ageless c now message room (λ _. goes_on refl v) (λ _ _. gone refl refl) (λ e. leaves (receive_sound c now room e))
+    receive_by Stays stays_ageless c now message room (λ _. goes_on_lem refl v) (λ _ _. gone refl refl) (λ e. leaves (receive_sound c now room e))
   where
     leaves : Sound c → Ways Stays c now (parsed_of message)
     leaves s =
         record {
-          malformed_open = λ _. goes_on refl (inr (is_sound (clocked c now) (clocked_sound c now s)));
+          malformed_open = λ _. goes_on_lem refl (inr (is_sound (clocked c now) (clocked_sound c now s)));
           malformed_set_up = λ _. gone refl refl;
-          unexpected = λ _. goes_on refl (inr (is_sound (clocked c now) (clocked_sound c now s)));
+          unexpected = λ _. goes_on_lem refl (inr (is_sound (clocked c now) (clocked_sound c now s)));
           unexpected_set_up = λ _. gone refl refl;
           taken = λ h t _ _ _. taken_stays c s now h t;
           refusing = λ _ _. gone refl refl;
@@ -166,26 +166,26 @@ receive_stays c now message room v =
 
 pub tick_stays : (c : Connection) (now : Count) → Valid c → Stays (tick_outcome c now)
 tick_stays c now v =
-    tick_by Stays c now (λ _. goes_on refl v) (λ _ _. gone refl refl)
-    (λ e. goes_on refl (inr (is_sound (clocked c now) (clocked_sound c now (tick_sound c now e)))))
+    tick_by Stays c now (λ _. goes_on_lem refl v) (λ _ _. gone refl refl)
+    (λ e. goes_on_lem refl (inr (is_sound (clocked c now) (clocked_sound c now (tick_sound c now e)))))
 
 pub close_stays : (c : Connection) → Valid c → Stays (close_outcome c)
 unfolding close_outcome
-close_stays c v = both Stays (not (eqb (close_refusal c) 0)) _ _ (λ _. goes_on refl v) (λ _. gone refl refl)
+close_stays c v = both Stays (not (eqb (close_refusal c) 0)) _ _ (λ _. goes_on_lem refl v) (λ _. gone refl refl)
 
 pub send_stays : (c : Connection) (now : Count) (size room : ℕ) → Valid c → Stays (send_outcome c now size room)
 unfolding send_outcome
 send_stays c now size room v =
-    both Stays (not (eqb (send_refusal c now size room) 0)) _ _ (λ _. goes_on refl v)
+    both Stays (not (eqb (send_refusal c now size room) 0)) _ _ (λ _. goes_on_lem refl v)
     (λ e. go (send_sound c now size room (none_refused (send_refusal c now size room) e)))
   where
     go : Sound c → Stays (sending (data_header c now) (data_tail size) (sent (clocked c now)))
-    go s = goes_on refl (inr (sound_is (sent (clocked c now)) s.settings s.phase s.errors))
+    go s = goes_on_lem refl (inr (sound_is (sent (clocked c now)) s.settings s.phase s.errors))
 
 pub begin_stays : (c : Connection) (g : Given) (now : Count) (room : ℕ) → Valid c → Stays (begin_outcome c g now room)
 unfolding begin_outcome begin_refusal ◌outside◌to◌
 begin_stays c g now room v =
-    both Stays (not (eqb (begin_refusal c g room) 0)) _ _ (λ _. goes_on refl v) (λ e. go (settings_in (none_refused (begin_refusal c g room) e)))
+    both Stays (not (eqb (begin_refusal c g room) 0)) _ _ (λ _. goes_on_lem refl v) (λ e. go (settings_in (none_refused (begin_refusal c g room) e)))
   where
     settings_in : begin_refusal c g room ≡ 0 → out_of_range g.settings ≡ false
     settings_in e =
@@ -198,8 +198,8 @@ begin_stays c g now room v =
         → Stays (when eqb g.role initiator answer start_sent g now else kept 0 0 (begun g.settings g.own responder_waits_for1 now))
     go s =
         both Stays (eqb g.role initiator) _ _
-        (λ _. goes_on refl (inr (sound_is _ s refl (lt-leb g.settings.limit 0 (in_range g.settings s).limit))))
-        (λ _. goes_on refl (inr (sound_is _ s refl (lt-leb g.settings.limit 0 (in_range g.settings s).limit))))
+        (λ _. goes_on_lem refl (inr (sound_is _ s refl (lt-leb g.settings.limit 0 (in_range g.settings s).limit))))
+        (λ _. goes_on_lem refl (inr (sound_is _ s refl (lt-leb g.settings.limit 0 (in_range g.settings s).limit))))
 
 pub call_stays : (call : Call) (c : Connection) (now : Count) (lent : List ℕ) (room : ℕ) → Valid c → Stays (outcome_of call c now lent room)
 call_stays (Call.Begin g) c now lent room = begin_stays c g now room

@@ -10,13 +10,11 @@ use lib.Dec.{eqb}
 use lib.ListN.{length}
 use borrow.Author.Tests.{eq-eqb}
 use Rattle.rules.specs.Rows.{when◌answer◌else◌}
-use Rattle.link_promises.specs.Promises.{links_up}
-use Rattle.links.specs.declared.Taken.{Taken}
 use Rattle.link_promises.proofs.Forward.{goes_forward}
 use Rattle.text.specs.Line.{end_of}
 use Rattle.recording.specs.Printed.{line_of}
 use Rattle.recording.specs.Progress.{last_answer}
-use Rattle.recording.specs.Cut.{Reach, reached_by, taken_from, cut_in, most_steps, cut_from, GoesOn}
+use Rattle.recording.specs.Cut.{Reach, reached_by, taken_from, cut_in, most_steps, GoesOn}
 
 -- an answer that is not the last is neither 301 nor 308
 not_301 : (n : ℕ) → last_answer n ≡ false → n ≡ 301 → ⊥
@@ -69,9 +67,9 @@ module _ (normal redundant callers : List ℕ) (ours : ℕ) where
       let fewer = fewer_left x e in
       enough n m (reached_by t x) (omega arith) (omega arith)))
 
-  pub goes_on : GoesOn normal redundant callers ours
+  pub goes_on_lem : GoesOn normal redundant callers ours
   unfolding cut_in
-  goes_on x =
+  goes_on_lem x =
       let t = taken_from normal redundant callers ours x in
       ap (λ (l : List ℕ). line_of t ++ l)
       (goes_alike (last_answer t.answer) (end_of (reached_by t x).handed_up) (λ e.

@@ -18,7 +18,7 @@ use Rattle.packet.specs.Sizes.{most_packet}
 use Rattle.links.specs.declared.State.{State}
 use Rattle.links.specs.declared.Taken.{Taken}
 use Rattle.text.specs.Line.{end_of}
-use Rattle.recording.specs.Printed.{heading, line_of, most_line}
+use Rattle.recording.specs.Printed.{heading, most_line}
 use Rattle.recording.specs.Progress.{start_of, windowed, taken_at, stepped_of, UsesNoMore, Lies}
 use Rattle.recording.specs.Cut.{cut_of}
 use Rattle.recording.specs.Whole.{Reads, Cuts, TurnOf, Cutting, PrintedToTheEnd, PrintedWhole, BothHaveRoom, BothMovedNoMore}

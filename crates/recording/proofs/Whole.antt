@@ -1,10 +1,10 @@
 -- However two files are read into their windows, what is printed is what `cut` prints for the whole files.
 -- Assumes nothing.
-use Prim.Native.Nat.{ℕ, ◌+◌, ◌-◌, ◌≤◌}
+use Prim.Native.Nat.{ℕ, ◌+◌, ◌≤◌}
 use mathlib.Core.Path.{◌≡◌, refl, sym, ap, ap₂, subst, ◌∙◌}
 use mathlib.Core.Bool.{Bool, true, false, cond, false≢true}
-use mathlib.Core.List.{List, [], ◌++◌, append_assoc, append-nil}
-use mathlib.Core.Logic.{◌⊎◌, inl, inr, ⊎_elim}
+use mathlib.Core.List.{List, ◌++◌, append_assoc}
+use mathlib.Core.Logic.{inl, inr, ⊎_elim}
 use native.Mathlib.Omega.{arith}
 use lib.ListN.{length, take, drop, length-drop}
 use lib.Seq.{length-take-le, drop-drop, drop-append-le}
@@ -12,21 +12,21 @@ use Rattle.rules.specs.Rows.{when◌answer◌else◌}
 use Rattle.window.specs.Window.{Within, left_of, unread, low_of, used_of, was_read}
 use Rattle.window.specs.declared.Window.{Window}
 use Rattle.window.proofs.Unread.{part, length_unread, unread_used, enough_or_ended, unread_refilled}
-use Rattle.link_promises.specs.Promises.{seen_from, placeless}
+use Rattle.link_promises.specs.Promises.{seen_from}
 use Rattle.packet.specs.Sizes.{most_packet}
 use Rattle.links.specs.declared.State.{State}
 use Rattle.links.specs.declared.Taken.{Taken}
 use Rattle.link_promises.proofs.Alike.{sees_no_more_than_a_packet, buffer_seen_as_file}
 use Rattle.text.specs.Line.{end_of}
-use Rattle.recording.specs.Printed.{heading, line_of}
+use Rattle.recording.specs.Printed.{line_of}
 use Rattle.recording.specs.Progress.{taken_at, last_answer, counted_of, stepped_of, Lies}
-use Rattle.recording.specs.Cut.{Reach, reached_by, taken_from, cut_from, cut_of, start_from}
+use Rattle.recording.specs.Cut.{Reach, reached_by, taken_from, cut_from, cut_of}
 use Rattle.recording.specs.Whole.{Follows, reach_of, reached, StepsAsWhole, Reads, ReadsFollow, Cuts, PiecesAsWhole}
 use Rattle.recording.specs.Whole.Reads.{stays, refills}
 use Rattle.recording.specs.Whole.Cuts.{starts, reads, steps}
 use Rattle.recording.specs.declared.Progress.{Progress}
 use Rattle.recording.proofs.Windows.{uses, lies_after}
-use Rattle.recording.proofs.Steps.{goes_on}
+use Rattle.recording.proofs.Steps.{goes_on_lem}
 
 -- what is lent of a window that follows a file is seen as the file is
 pub seen_as_file : (file : List ℕ) (place : ℕ) (buffer : List ℕ) (w : Window) (to_read : List ℕ) → Within w (length buffer) → Follows file place buffer w to_read
@@ -154,7 +154,7 @@ module _ (callers : List ℕ) (ours : ℕ) (state : State) (normal_file redundan
             ∙ ap (λ (l : List ℕ). printed ++ l)
             (ap₂ (λ (l : List ℕ) (y : Reach). l ++ (when after.last answer end_of y.handed_up else cut_from normal_file redundant_file callers ours y)) whole.0 whole.2
             ∙ ap (λ (b : Bool). line_of t ++ (when b answer end_of (reached_by t x).handed_up else cut_from normal_file redundant_file callers ours (reached_by t x))) whole.1
-            ∙ sym (goes_on normal_file redundant_file callers ours x))
+            ∙ sym (goes_on_lem normal_file redundant_file callers ours x))
             ∙ ap (λ (b : Bool). printed ++ (when b answer end_of p.handed_up else cut_from normal_file redundant_file callers ours x)) (sym goes) ∙ was.rest;
       }
 

@@ -14,7 +14,6 @@ use Rattle.links.specs.declared.Taken.{Taken}
 use Rattle.link_promises.proofs.Promises.{uses_no_more_than_lent}
 use Rattle.recording.specs.Progress.{taken_at, counted_of, stepped_of, UsesNoMore, Lies, AdvancesAgree}
 use Rattle.recording.specs.declared.Progress.{Progress}
-use Rattle.recording.specs.declared.Advanced.{Advanced}
 
 -- what is within the link that is named, said of each link
 by_link : (normal : Bool) (n r used : ℕ) (ns rs : List ℕ) → cond normal n r + used ≤ length (cond normal ns rs)

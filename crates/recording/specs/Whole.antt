@@ -125,7 +125,8 @@ pub record Cutting (callers : List ℕ) (ours : ℕ) (state : State) (normal red
   pub written : List ℕ
   pub cuts : (normal_rest redundant_rest : List ℕ)
       → (p.normal.ended ≡ true → normal_rest ≡ []) → (p.redundant.ended ≡ true → redundant_rest ≡ [])
-      → Cuts callers ours state (normal_read ++ normal_rest) (redundant_read ++ redundant_rest) normal redundant p normal_rest redundant_rest
+      → Cuts callers ours state (normal_read ++ normal_rest) (redundant_read ++ redundant_rest)
+      normal redundant p normal_rest redundant_rest
       (written ++ take at out)
 
 -- After the last step: what was written, what the out buffer holds and the last line, which counts the packets handed up, are what `cut`

@@ -1,4 +1,6 @@
 // Recorded links cut into packets: one step over the windows of two links, and the text that is printed for it; ids as words.
+#![tactic(auto)]
+
 ghost use Rattle.std.specs.Prelude.{◌≡◌, true, false, ◌+◌, ◌^◌, ◌≤◌, ◌<◌, length};
 ghost use Rattle.text.specs.Text.{PutAt};
 ghost use Rattle.window.specs.Window.{low_of};
@@ -20,7 +22,7 @@ pub const MOST_LINE: usize = MOST_LINK_NAME + 5 * text::MOST_NUMBER + 1;
 const ID_DIGITS: usize = 8;
 
 // The windows of the two links, the state of the steps, how many packets were handed up, and whether the last step answered 301 or 308.
-#[derive(Drop)]
+#[derive(Clone, Copy)]
 pub struct Progress {
     pub normal: Window,
     pub redundant: Window,
@@ -30,14 +32,14 @@ pub struct Progress {
 }
 
 // CUT-5: what a word says: an id, where it is right.
-#[derive(Drop)]
+#[derive(Clone, Copy)]
 pub struct Id {
     pub right: bool,
     pub id: u32,
 }
 
 // The progress after a step, and the place after the line that was put for it.
-#[derive(Drop)]
+#[derive(Clone, Copy)]
 pub struct Advanced {
     pub progress: Progress,
     pub next: usize,

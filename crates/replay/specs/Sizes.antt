@@ -2,6 +2,6 @@
 -- Assumes nothing.
 use Rattle.std.specs.Prelude.{ℕ}
 
--- the bytes of a buffer that `io::large_buffer` gives; a piece of a trace has no more records
+-- the bytes of the buffer; a piece of a trace has no more records
 abbrev pub large_buffer : ℕ
 large_buffer = 65536

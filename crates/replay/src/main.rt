@@ -1,4 +1,6 @@
 // replay [FILE]: replays a trace, of standard input where no file is named, and prints a line for each record.
+#![tactic(auto)]
+
 ghost use Rattle.std.specs.Prelude.{◌≡◌, true, false, ◌+◌, ◌^◌, ◌≤◌, ◌<◌, length};
 ghost use Rattle.window.specs.Window.{Within};
 ghost use Rattle.pieces.specs.Pieces.{PieceOf, PrintedWhole};
@@ -8,10 +10,16 @@ ghost use Rattle.replay_lines.specs.Printed.{most_line};
 ghost use Rattle.replay_lines.specs.Replay.{replay};
 ghost use Rattle.replay.specs.Sizes.{large_buffer};
 
-use libc::STDIN_FILENO;
 use replay_lines::{Advanced, Progress};
+use std::io::{Read, Write};
 use trace::ROOM;
 use window::Window;
+
+// A piece of a trace has at most so many bytes, and the out buffer has as many.
+const LARGE_BUFFER: usize = 65536;
+
+// The most bytes of a file's name.
+const MOST_NAME: usize = 4096;
 
 // More turns than any run takes.
 const MOST_TURNS: u64 = 0x8000_0000_0000;
@@ -40,8 +48,10 @@ impl Replayed {
 }
 
 // One piece of the trace: room for a line, the window topped up, and as many records as it holds whole.
-fn piece(
-    fd: i32,
+fn piece<R: Read, W: Write, E: Write>(
+    file: &mut R,
+    to: &mut W,
+    err: &mut E,
     name: &[u8],
     buffer: &mut [u8],
     lent: &mut [u8],
@@ -57,11 +67,11 @@ fn piece(
         buffer.new lent.new out.new result.advanced.progress result.advanced.window result.advanced.next
         × (result.advanced.progress.count ≤ p.count + large_buffer) }
 {
-    let place = text::make_room(out, at, replay_lines::MOST_LINE);
+    let place = text::make_room(to, err, out, at, replay_lines::MOST_LINE);
     if place.failed {
         return Replayed::no_further(p, w, place.at);
     }
-    let topped = window::topped_up(fd, name, buffer, w, trace::MOST_RECORD);
+    let topped = window::topped_up(file, err, name, buffer, w, trace::MOST_RECORD);
     let window = topped.window;
     if topped.failed {
         return Replayed::no_further(p, window, place.at);
@@ -74,18 +84,26 @@ fn piece(
 
 // Writes the rest of the text: with some text before it, it is what the replay prints for some bytes (`PrintedWhole`). In `replay_all`'s
 // proof these are the text that was written and the bytes that were read, but no contract can say what is read from a file or written to
-// one. So a refill that drops the bytes of a read, and a `make_room` that writes nothing, would meet every contract here: that they do not
-// is seen in their few lines, and by the tests.
-fn finish(out: &[u8], at: usize)
+// one. So a refill that drops the bytes of a read would meet every contract here: that it does not is seen in its few lines, and by the
+// tests. What `make_room` and `written` write, their contracts say of a writer whose bytes are known.
+fn finish<W: Write, E: Write>(to: &mut W, err: &mut E, out: &[u8], at: usize)
     requires at_in_bounds { at ≤ length out.now }
     requires printed_whole { PrintedWhole replay out.now at }
 {
-    text::written(out, at);
+    text::written(to, err, out, at);
 }
 
 // The heading, then a piece at a time until the replay stops. A proved loop has to end, and nothing says that a trace does, so the loop
 // counts its turns down, from a number that no run uses up.
-fn replay_all(fd: i32, name: &[u8], buffer: &mut [u8], lent: &mut [u8], out: &mut [u8])
+fn replay_all<R: Read, W: Write, E: Write>(
+    file: &mut R,
+    to: &mut W,
+    err: &mut E,
+    name: &[u8],
+    buffer: &mut [u8],
+    lent: &mut [u8],
+    out: &mut [u8],
+)
     requires most_record_in_bounds { (most_record ≤ length buffer.old) × (length buffer.old ≤ large_buffer) }
     requires lent_len { (length lent.old ≡ room) × (most_line ≤ length out.old) }
 {
@@ -94,7 +112,7 @@ fn replay_all(fd: i32, name: &[u8], buffer: &mut [u8], lent: &mut [u8], out: &mu
     let mut window = Window::empty();
     let mut turns = MOST_TURNS;
     while turns > 0 {
-        let replayed = piece(fd, name, buffer, lent, out, at, progress, window);
+        let replayed = piece(file, to, err, name, buffer, lent, out, at, progress, window);
         if replayed.failed {
             return;
         }
@@ -103,7 +121,7 @@ fn replay_all(fd: i32, name: &[u8], buffer: &mut [u8], lent: &mut [u8], out: &mu
         window = advanced.window;
         at = advanced.next;
         if progress.stopped {
-            finish(out, at);
+            finish(to, err, out, at);
             return;
         }
         turns -= 1;
@@ -111,34 +129,47 @@ fn replay_all(fd: i32, name: &[u8], buffer: &mut [u8], lent: &mut [u8], out: &mu
 }
 
 // The buffers of an open trace.
-fn replay_open(fd: i32, name: &[u8]) {
-    let mut buffer = io::large_buffer();
+fn replay_open<R: Read>(rt: &HostRuntime, file: &mut R, name: &[u8]) {
+    let mut buffer = [0u8; LARGE_BUFFER];
     let mut lent = [0u8; ROOM];
-    let mut out = io::large_buffer();
-    replay_all(fd, name, &mut buffer, &mut lent, &mut out);
+    let mut out = [0u8; LARGE_BUFFER];
+    let mut to = rt.stdout();
+    let mut err = rt.stderr();
+    replay_all(
+        file,
+        &mut to,
+        &mut err,
+        name,
+        &mut buffer,
+        &mut lent,
+        &mut out,
+    );
 }
 
 // Opens the file and replays it.
-fn replay_named() {
-    let mut name = io::buffer();
-    let size = os::arg(1, &mut name);
-    let fd = window::open_file(&name[..size], b"FILE");
-    if fd < 0 {
-        return;
+fn replay_named(rt: &HostRuntime) {
+    let mut room = [0u8; MOST_NAME];
+    let name = text::arg(rt, 1, &mut room);
+    let mut err = rt.stderr();
+    if let Some(mut file) = window::open_file(rt, &mut err, name, b"FILE") {
+        replay_open(rt, &mut file, name.unwrap_or(b""));
     }
-    replay_open(fd, &name[..size]);
-    libc::close(fd);
 }
 
-fn main() {
-    let count = os::arg_count();
+fn main(rt: HostRuntime) {
+    let count = text::arg_count(&rt);
     if count < 2 {
-        replay_open(STDIN_FILENO, b"standard input");
+        let mut input = rt.stdin();
+        replay_open(&rt, &mut input, b"standard input");
         return;
     }
     if count == 2 {
-        replay_named();
+        replay_named(&rt);
         return;
     }
-    text::say(b"replay: the argument is FILE, or none for standard input\n");
+    let mut err = rt.stderr();
+    text::say(
+        &mut err,
+        b"replay: the argument is FILE, or none for standard input\n",
+    );
 }

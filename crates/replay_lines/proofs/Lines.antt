@@ -1,9 +1,8 @@
 -- What is put at a turn has no more bytes than the most that are said.
 -- Assumes nothing.
-use Prim.Native.Nat.{ℕ, zero, suc, ◌+◌, ◌/◌, ◌%◌, ◌≤◌}
-use mathlib.Core.Path.{◌≡◌, refl}
+use Prim.Native.Nat.{ℕ, zero, suc, ◌/◌, ◌%◌, ◌≤◌}
 use mathlib.Core.Bool.{Bool, true, false}
-use mathlib.Core.List.{List, [], ◌∷◌, ◌++◌}
+use mathlib.Core.List.{[], ◌∷◌, ◌++◌}
 use native.Mathlib.Omega.{arith}
 use lib.Dec.{ltb}
 use lib.IntN.{pos, nat_abs}
@@ -26,10 +25,10 @@ digits_fit (suc most) n = by (ltb n 10) (digits_fit most (n / 10))
     by true h = omega arith
     by false h = omega (arith, h, length-append (decimal_in most (n / 10)) (digit (n % 10) ∷ []))
 
-decimal_fits : (n : ℕ) → length (decimal_of n) ≤ most_digits
+pub decimal_fits : (n : ℕ) → length (decimal_of n) ≤ most_digits
 decimal_fits n = digits_fit most_digits n
 
-signed_fits : (negative : Bool) (size : ℕ) → length (signed_word negative size) ≤ most_signed
+pub signed_fits : (negative : Bool) (size : ℕ) → length (signed_word negative size) ≤ most_signed
 signed_fits true size = omega (arith, decimal_fits size, length-append (ascii " -") (decimal_of size))
 signed_fits false size = omega (arith, decimal_fits size, length-append (ascii " ") (decimal_of size))
 

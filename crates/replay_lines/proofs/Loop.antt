@@ -6,7 +6,6 @@ use mathlib.Core.Bool.{Bool, true, false, cond}
 use mathlib.Core.List.{List}
 use native.Mathlib.Omega.{arith}
 use lib.ListN.{length, set, length-set}
-use Rattle.connection.specs.declared.Connection.{Connection}
 use Rattle.table.specs.Table.{most_records, record_at}
 use Rattle.window.specs.Window.{Within, left_of, unread, used_of}
 use Rattle.window.specs.declared.Window.{Window}
@@ -21,7 +20,7 @@ use Rattle.trace.specs.declared.Next.TheVariants.{End, Bad, Whole}
 use Rattle.trace.proofs.Records.{whole_fits}
 use Rattle.replay_lines.specs.Printed.{most_line}
 use Rattle.replay_lines.specs.Replay.{turn_on, turn_of, replay}
-use Rattle.replay_lines.specs.Slot.{slot_of, WholeFits, Holds, TurnedOn, TurnsAny}
+use Rattle.replay_lines.specs.Slot.{slot_of, WholeFits, TurnedOn, TurnsAny}
 use Rattle.replay_lines.specs.declared.Progress.{Progress}
 use Rattle.replay_lines.specs.declared.Turned.{Turned}
 use Rattle.replay_lines.proofs.Laws.{replay_laws}

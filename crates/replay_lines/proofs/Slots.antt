@@ -4,7 +4,6 @@ use Prim.Native.Nat.{ℕ, ◌+◌, ◌≤◌, ◌<◌}
 use mathlib.Core.Path.{◌≡◌, refl, sym, ap, subst, ◌∙◌}
 use mathlib.Core.Bool.{Bool, true, false}
 use mathlib.Core.List.{List}
-use native.Mathlib.Omega.{arith}
 use borrow.Author.Tests.{le-leb, lt-leb, lt-ltb, le-ltb}
 use lib.ListN.{length, set, length-replicate}
 use lib.Seq.{set-get_or}
@@ -27,12 +26,12 @@ use Rattle.trace.specs.declared.Next.{Next}
 use Rattle.trace.specs.declared.Next.TheVariants.{End, Bad, Whole}
 use Rattle.text.specs.Line.{end_of}
 use Rattle.replay_lines.specs.Printed.{line_of, bad_of}
-use Rattle.replay_lines.specs.Replay.{any_out, WhateverOutHolds, stops, turn_on}
-use Rattle.replay_lines.specs.Slot.{slot_in, slot_of, Holds, stored_in, TurnedOn}
+use Rattle.replay_lines.specs.Replay.{any_out, WhateverOutHolds}
+use Rattle.replay_lines.specs.Slot.{slot_in, slot_of, Holds, TurnedOn}
 use Rattle.replay_lines.specs.declared.Progress.{Progress}
 use Rattle.replay_lines.specs.declared.Turned.{Turned}
 
-any_room : length any_out ≡ room
+pub any_room : length any_out ≡ room
 unfolding any_out
 any_room = length-replicate {A = ℕ} room 0
 
@@ -70,11 +69,11 @@ unfolding slot_in
 slot_none slot h = rw (le-ltb slot most_records h)
 
 module _ (table : List Connection) (r : Record) (bytes out : List ℕ) (size : length table ≡ most_records) where
-  made_here : r.slot < most_records → made_on table r bytes out ≡ stored_at table r.slot (made_by (record_at table r.slot) r bytes out)
+  pub made_here : r.slot < most_records → made_on table r bytes out ≡ stored_at table r.slot (made_by (record_at table r.slot) r bytes out)
   unfolding made_at bad_slot
   made_here h = rw (size, lt-leb most_records r.slot h)
 
-  made_none : most_records ≤ r.slot → made_on table r bytes out ≡ leaves_at (refusal 101) table out
+  pub made_none : most_records ≤ r.slot → made_on table r bytes out ≡ leaves_at (refusal 101) table out
   unfolding made_at bad_slot
   made_none h = rw (size, le-leb most_records r.slot h)
 
@@ -105,10 +104,10 @@ module _ (p : Progress) (r : Record) (c : Connection) (count : ℕ) (holds : Hol
         sym (made_here p.table r bytes lent holds.size h ∙ ap (λ (k : Connection). stored_at p.table r.slot (made_by k r bytes lent)) here)
 
     -- a whole record with a slot
-    pub call_turn : {called : Called} {lent_after out_after : List ℕ} {at next : ℕ} → leaves called lent_after ≡ made_by c r bytes lent
+    pub call_turn_lem : {called : Called} {lent_after out_after : List ℕ} {at next : ℕ} → leaves called lent_after ≡ made_by c r bytes lent
         → PutAt out at (line_of r.slot called.answer.number called.answer.age) out_after next
         → TurnedOn p (Whole r) rest lent out at lent_after out_after (turned_to called.next (size_of r) (count + 1) false next)
-    call_turn {called} {lent_after} {out_after} {at} {next} left put =
+    call_turn_lem {called} {lent_after} {out_after} {at} {next} left put =
         let stored : stored_at p.table r.slot (leaves called lent_after) ≡ made_on p.table r bytes lent =
         ap (stored_at p.table r.slot) left ∙ on_table in
         record {

@@ -1,4 +1,6 @@
 // The lines that the replay of a trace prints: its records are read, each makes its call on the table, and a line is put for it.
+#![tactic(auto)]
+
 ghost use Rattle.std.specs.Prelude.{◌≡◌, ◌+◌, ◌^◌, ◌≤◌, ◌<◌, length};
 ghost use Rattle.table.specs.Table.{most_records};
 ghost use Rattle.text.specs.Text.{PutAt};
@@ -21,10 +23,10 @@ use window::Window;
 pub const MOST_LINE: usize = 64;
 
 // CALL-101: the answer to a slot that is none; AGE-8: no age goes with it.
-const BAD_SLOT: u16 = 101;
+pub const BAD_SLOT: u16 = 101;
 
 // How far a replay is: the table, how many records were replayed, and whether it has stopped.
-#[derive(Drop)]
+#[derive(Clone, Copy)]
 pub struct Progress {
     pub table: [Connection; MOST_RECORDS],
     pub count: u64,
@@ -32,7 +34,7 @@ pub struct Progress {
 }
 
 // What a turn leaves: its slot's record, the bytes that it used up, the count, whether the replay has stopped, the place after its text.
-#[derive(Drop)]
+#[derive(Clone, Copy)]
 struct Turned {
     record: Connection,
     used: usize,
@@ -42,7 +44,7 @@ struct Turned {
 }
 
 // How far a replay is after a piece of the trace, the window on the bytes that are left of it, and the place after the text that was put.
-#[derive(Drop)]
+#[derive(Clone, Copy)]
 pub struct Advanced {
     pub progress: Progress,
     pub window: Window,
@@ -91,7 +93,7 @@ fn put_bad(out: &mut [u8], at: usize, count: u64) -> usize
 }
 
 // The slot whose record a turn takes and leaves: the record's own; 0 where it has none, and then that record stays as it is.
-fn slot_of(first: Next) -> usize
+pub fn slot_of(first: Next) -> usize
     ensures { (result ≡ slot_of first) × (result < most_records) }
 {
     match first {
@@ -193,7 +195,7 @@ fn waits(stopped: bool, w: Window, room: usize) -> bool
 }
 
 // The bytes at hand.
-fn unread(buffer: &[u8], w: Window) -> &[u8]
+pub fn unread(buffer: &[u8], w: Window) -> &[u8]
     requires { Within w (length buffer.now) }
     ensures { result.now ≡ unread buffer.now w }
 {

@@ -1,4 +1,6 @@
 // The five calls over a connection that the host keeps as a row of bytes, and that row's fields as numbers: what a C program calls.
+#![tactic(auto)]
+
 ghost use Rattle.std.specs.Prelude.{◌≡◌, true, ◌∷◌, [], ◌+◌, ◌^◌, ◌<◌, ◌≤◌, length, get_or};
 ghost use Rattle.std.proofs.lemmas.List.Edits.{sets};
 ghost use Rattle.field.specs.Row.{fields_of, row_of};
@@ -88,8 +90,7 @@ fn store(row: &mut [u8], answer: &mut [u8], called: Called) -> u32
 // A number is returned in 32 bits, though 16 hold it: of a narrower result C's compilers differ in what the rest of the register may hold.
 
 // CALL-BEGIN over a row.
-#[unsafe(no_mangle)]
-pub extern "C" fn zorakunju_begin(
+pub fn zorakunju_begin(
     row: &mut [u8],
     role: u8,
     n: u16,
@@ -128,8 +129,7 @@ pub extern "C" fn zorakunju_begin(
 }
 
 // CALL-RECEIVE over a row.
-#[unsafe(no_mangle)]
-pub extern "C" fn zorakunju_receive(
+pub fn zorakunju_receive(
     row: &mut [u8],
     now: u32,
     message: &[u8],
@@ -147,8 +147,7 @@ pub extern "C" fn zorakunju_receive(
 }
 
 // CALL-SEND over a row.
-#[unsafe(no_mangle)]
-pub extern "C" fn zorakunju_send(
+pub fn zorakunju_send(
     row: &mut [u8],
     now: u32,
     data: &[u8],
@@ -166,8 +165,7 @@ pub extern "C" fn zorakunju_send(
 }
 
 // CALL-TICK over a row.
-#[unsafe(no_mangle)]
-pub extern "C" fn zorakunju_tick(row: &mut [u8], now: u32, answer: &mut [u8]) -> u32
+pub fn zorakunju_tick(row: &mut [u8], now: u32, answer: &mut [u8]) -> u32
     ensures { leaves_in (stored result row.new answer.new) []
         ≡ made_in Call.Tick row.old (count_from now) [] [] answer.old }
 {
@@ -179,8 +177,7 @@ pub extern "C" fn zorakunju_tick(row: &mut [u8], now: u32, answer: &mut [u8]) ->
 }
 
 // CALL-CLOSE over a row.
-#[unsafe(no_mangle)]
-pub extern "C" fn zorakunju_close(row: &mut [u8], answer: &mut [u8]) -> u32
+pub fn zorakunju_close(row: &mut [u8], answer: &mut [u8]) -> u32
     ensures { leaves_in (stored result row.new answer.new) []
         ≡ made_in Call.Close row.old no_count [] [] answer.old }
 {
@@ -236,8 +233,7 @@ fn put_fields(row: &mut [u8], fields: &[u32]) -> bool
 }
 
 // ROW-9.
-#[unsafe(no_mangle)]
-pub extern "C" fn zorakunju_read_row(row: &[u8], fields: &mut [u32]) -> u32
+pub fn zorakunju_read_row(row: &[u8], fields: &mut [u32]) -> u32
     ensures { wrote result fields.new ≡ fields_read row.now fields.old }
 {
     let read = connection_row::read_row(row);
@@ -252,8 +248,7 @@ pub extern "C" fn zorakunju_read_row(row: &[u8], fields: &mut [u32]) -> u32
 }
 
 // ROW-10.
-#[unsafe(no_mangle)]
-pub extern "C" fn zorakunju_write_row(fields: &[u32], row: &mut [u8]) -> u32
+pub fn zorakunju_write_row(fields: &[u32], row: &mut [u8]) -> u32
     ensures { wrote result row.new ≡ fields_written fields.now row.old }
 {
     if fields.len() != FIELDS {

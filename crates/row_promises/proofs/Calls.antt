@@ -283,7 +283,7 @@ module _ (call : Call) (row : List ℕ) (now : Count) (lent out answer_row : Lis
 
     listed_here : left.said.number among row_numbers call ≡ true
     listed_here =
-        rw same_number
+        subst (λ (k : ℕ). k among row_numbers call ≡ true) (sym same_number)
         (listed call comes.number (call_number call (stands_for row) now lent (length out))
         (call_other (stands_for row) (valid_is_not_bad (stands_for row) (valid_record (stands_for row) (valid_of row accepted_here))) call now lent (length out)))
 

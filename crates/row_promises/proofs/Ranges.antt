@@ -63,8 +63,8 @@ same {c} {o} r e = record { ranges = subst Ranges (sym e) r; how = inl e }
 gone : {c : Connection} {o : Outcome} → o.next ≡ all_zero → Keeps c o
 gone e = record { ranges = subst Ranges (sym e) zero_ranges; how = inr (inl e) }
 
-goes_on : {c : Connection} {o : Outcome} → Ranges o.next → eqb o.next.phase closed ≡ false → Keeps c o
-goes_on r p = record { ranges = r; how = inr (inr p) }
+goes_on_lem : {c : Connection} {o : Outcome} → Ranges o.next → eqb o.next.phase closed ≡ false → Keeps c o
+goes_on_lem r p = record { ranges = r; how = inr (inr p) }
 
 -- ---- what is not refused is not closed
 
@@ -139,18 +139,18 @@ module _ (c : Connection) (now : Count) (r : Ranges c) (small : now.0 < 2 ^ 32) 
     taken_keeps : eqb c.phase closed ≡ false → Keeps c (message_taken c now h t)
     unfolding message_taken start_taken answ1_taken answ2_taken est_taken end_taken data_taken
     taken_keeps p =
-        both (Keeps c) (eqb h.kind offset_start) _ _ (λ _. goes_on (record { phase = lit< tt; settings = r.settings; own = one_more_lem; peer = heard_peer; wait = small; offsets = r.offsets; errors = r.errors; clock = small }) refl) (λ _.
-        both (Keeps c) (eqb h.kind offset_answ1) _ _ (λ _. goes_on (record { phase = lit< tt; settings = r.settings; own = one_more_lem; peer = heard_peer; wait = small; offsets = record { min = centred_range _; max = centred_range _ }; errors = r.errors; clock = small }) refl) (λ _.
-        both (Keeps c) (eqb h.kind offset_answ2) _ _ (λ _. goes_on (record { phase = lit< tt; settings = r.settings; own = one_more_lem; peer = heard_peer; wait = small; offsets = record { min = centred_range _; max = centred_range _ }; errors = r.errors; clock = small }) refl) (λ _.
-        both (Keeps c) (eqb h.kind offset_est) _ _ (λ _. goes_on (record { phase = lit< tt; settings = r.settings; own = one_more_lem; peer = heard_peer; wait = lit< tt; offsets = r.offsets; errors = r.errors; clock = small }) refl) (λ _.
-        both (Keeps c) (eqb h.kind offset_end) _ _ (λ _. goes_on (record { phase = lit< tt; settings = r.settings; own = r.own; peer = heard_peer; wait = lit< tt; offsets = r.offsets; errors = r.errors; clock = small }) refl) (λ _.
-        goes_on (record { phase = r.phase; settings = r.settings; own = r.own; peer = heard_peer; wait = r.wait; offsets = r.offsets; errors = lit< tt; clock = small }) p)))))
+        both (Keeps c) (eqb h.kind offset_start) _ _ (λ _. goes_on_lem (record { phase = lit< tt; settings = r.settings; own = one_more_lem; peer = heard_peer; wait = small; offsets = r.offsets; errors = r.errors; clock = small }) refl) (λ _.
+        both (Keeps c) (eqb h.kind offset_answ1) _ _ (λ _. goes_on_lem (record { phase = lit< tt; settings = r.settings; own = one_more_lem; peer = heard_peer; wait = small; offsets = record { min = centred_range _; max = centred_range _ }; errors = r.errors; clock = small }) refl) (λ _.
+        both (Keeps c) (eqb h.kind offset_answ2) _ _ (λ _. goes_on_lem (record { phase = lit< tt; settings = r.settings; own = one_more_lem; peer = heard_peer; wait = small; offsets = record { min = centred_range _; max = centred_range _ }; errors = r.errors; clock = small }) refl) (λ _.
+        both (Keeps c) (eqb h.kind offset_est) _ _ (λ _. goes_on_lem (record { phase = lit< tt; settings = r.settings; own = one_more_lem; peer = heard_peer; wait = lit< tt; offsets = r.offsets; errors = r.errors; clock = small }) refl) (λ _.
+        both (Keeps c) (eqb h.kind offset_end) _ _ (λ _. goes_on_lem (record { phase = lit< tt; settings = r.settings; own = r.own; peer = heard_peer; wait = lit< tt; offsets = r.offsets; errors = r.errors; clock = small }) refl) (λ _.
+        goes_on_lem (record { phase = r.phase; settings = r.settings; own = r.own; peer = heard_peer; wait = r.wait; offsets = r.offsets; errors = lit< tt; clock = small }) p)))))
 
 -- one error more, under the limit
 raised_keeps : (c d : Connection) (k n : ℕ) → Ranges d → eqb d.phase closed ≡ false → Keeps c (raised d k n)
 unfolding raised
 raised_keeps c d k n r p =
-    both (Keeps c) (leb d.settings.limit (d.errors + 1)) _ _ (λ _. gone refl) (λ e. goes_on (more (leb-false d.settings.limit (d.errors + 1) e)) p)
+    both (Keeps c) (leb d.settings.limit (d.errors + 1)) _ _ (λ _. gone refl) (λ e. goes_on_lem (more (leb-false d.settings.limit (d.errors + 1) e)) p)
   where
     more : d.errors + 1 < d.settings.limit → Ranges (counted d (d.errors + 1))
     more l =
@@ -176,9 +176,9 @@ module _ (c : Connection) (now : Count) (r : Ranges c) (small : now.0 < 2 ^ 32) 
       ways : eqb c.phase closed ≡ false → Ways (Keeps c) c now (parsed_of message)
       ways p =
           record {
-            malformed_open = λ _. goes_on (clocked_ranges c now r small) p;
+            malformed_open = λ _. goes_on_lem (clocked_ranges c now r small) p;
             malformed_set_up = λ _. gone refl;
-            unexpected = λ _. goes_on (clocked_ranges c now r small) p;
+            unexpected = λ _. goes_on_lem (clocked_ranges c now r small) p;
             unexpected_set_up = λ _. gone refl;
             taken = λ h t w _ _. taken_keeps c now r small message b h t w p;
             refusing = λ _ _. gone refl;
@@ -191,13 +191,13 @@ module _ (c : Connection) (now : Count) (r : Ranges c) (small : now.0 < 2 ^ 32) 
 
   tick_keeps : Keeps c (tick_outcome c now)
   tick_keeps =
-      tick_by (Keeps c) c now (λ _. same r refl) (λ _ _. gone refl) (λ e. goes_on (clocked_ranges c now r small) (open_to_tick c now e))
+      tick_by (Keeps c) c now (λ _. same r refl) (λ _ _. gone refl) (λ e. goes_on_lem (clocked_ranges c now r small) (open_to_tick c now e))
 
   send_keeps : (size room : ℕ) → Keeps c (send_outcome c now size room)
   unfolding send_outcome
   send_keeps size room =
       both (Keeps c) (not (eqb (send_refusal c now size room) 0)) _ _ (λ _. same r refl)
-      (λ e. goes_on (sent_ranges c now r small) (open_to_send c now size room (none_refused (send_refusal c now size room) e)))
+      (λ e. goes_on_lem (sent_ranges c now r small) (open_to_send c now size room (none_refused (send_refusal c now size room) e)))
 
   close_keeps : Keeps c (close_outcome c)
   unfolding close_outcome
@@ -209,8 +209,8 @@ module _ (c : Connection) (now : Count) (r : Ranges c) (small : now.0 < 2 ^ 32) 
       both (Keeps c) (not (eqb (begin_refusal c g room) 0)) _ _ (λ _. same r refl) (λ e.
       let s : SettingsRanges g.settings = settings_in (none_refused (begin_refusal c g room) e) in
       both (Keeps c) (eqb g.role initiator) _ _
-      (λ _. goes_on (record { phase = lit< tt; settings = s; own = record { number = next_fits g.own.number; period = own.1 }; peer = zero_ranges.peer; wait = small; offsets = zero_ranges.offsets; errors = lit< tt; clock = small }) refl)
-      (λ _. goes_on (record { phase = lit< tt; settings = s; own = record { number = own.0; period = own.1 }; peer = zero_ranges.peer; wait = lit< tt; offsets = zero_ranges.offsets; errors = lit< tt; clock = small }) refl))
+      (λ _. goes_on_lem (record { phase = lit< tt; settings = s; own = record { number = next_fits g.own.number; period = own.1 }; peer = zero_ranges.peer; wait = small; offsets = zero_ranges.offsets; errors = lit< tt; clock = small }) refl)
+      (λ _. goes_on_lem (record { phase = lit< tt; settings = s; own = record { number = own.0; period = own.1 }; peer = zero_ranges.peer; wait = lit< tt; offsets = zero_ranges.offsets; errors = lit< tt; clock = small }) refl))
     where
       settings_in : begin_refusal c g room ≡ 0 → SettingsRanges g.settings
       settings_in e =

@@ -1,9 +1,12 @@
 // single steps|packets|messages|writes|calls|tables FILE: takes the inputs of a file, each by itself, and prints what comes of it.
 // It is there to be compared with the independent program, which makes such files.
+#![tactic(auto)]
+
 ghost use Rattle.std.specs.Prelude.{◌≡◌, ◌+◌, ◌≤◌, length};
 ghost use Rattle.single.specs.Sizes.{most_input, most_text, buffer_size};
 ghost use Rattle.window.specs.Window.{Within};
 
+use std::io::{Read, Write};
 use text::{Chosen, Done};
 use window::Window;
 
@@ -13,8 +16,11 @@ const MOST_INPUT: usize = 262144;
 // The bytes of a buffer: two inputs, so that a byte is moved at most once (CUT-6), and the text of one.
 const BUFFER: usize = 524288;
 
+// The most bytes of a word of the command line.
+const MOST_WORD: usize = 4096;
+
 // What an input is.
-#[derive(Drop)]
+#[derive(Clone, Copy)]
 enum Kind {
     Step,
     Packet,
@@ -26,7 +32,7 @@ enum Kind {
 }
 
 // The window after an input, and whether to go on.
-#[derive(Drop)]
+#[derive(Clone, Copy)]
 struct Turned {
     window: Window,
     goes_on: bool,
@@ -66,22 +72,32 @@ fn input_at(kind: Kind, s: &[u8], out: &mut [u8]) -> Done
 }
 
 // Says that bytes are left which are no whole input.
-fn say_cut(left: usize) {
+fn say_cut<E: Write>(err: &mut E, left: usize) {
     if left > 0 {
-        text::say(b"single: the file ends within an input, or has one that is too long\n");
+        text::say(
+            err,
+            b"single: the file ends within an input, or has one that is too long\n",
+        );
     }
 }
 
 // The input at the front of a window, its lines, and the window with the input used up.
-fn taken(kind: Kind, buffer: &[u8], out: &mut [u8], window: Window) -> Turned
+fn taken<W: Write, E: Write>(
+    kind: Kind,
+    to: &mut W,
+    err: &mut E,
+    buffer: &[u8],
+    out: &mut [u8],
+    window: Window,
+) -> Turned
     requires { Within window (length buffer.now) × (most_text ≤ length out.old) }
     ensures { Within result.window (length buffer.now) }
 {
     let from = window.from;
-    let to = window.to;
-    let done = input_at(kind, &buffer[from..to], out);
+    let end = window.to;
+    let done = input_at(kind, &buffer[from..end], out);
     if done.used == 0 {
-        say_cut(to - from);
+        say_cut(err, end - from);
         return Turned {
             window,
             goes_on: false,
@@ -89,14 +105,16 @@ fn taken(kind: Kind, buffer: &[u8], out: &mut [u8], window: Window) -> Turned
     }
     Turned {
         window: window.used(done.used),
-        goes_on: text::written(out, done.next),
+        goes_on: text::written(to, err, out, done.next),
     }
 }
 
 // The next input of the file and its lines. It does not go on where there is none, or something could not be read or written.
-fn turn(
+fn turn<R: Read, W: Write, E: Write>(
     kind: Kind,
-    fd: i32,
+    file: &mut R,
+    to: &mut W,
+    err: &mut E,
     name: &[u8],
     buffer: &mut [u8],
     out: &mut [u8],
@@ -105,7 +123,7 @@ fn turn(
     requires { Within window (length buffer.old) × (most_input ≤ length buffer.old) × (most_text ≤ length out.old) }
     ensures { Within result.window (length buffer.old) }
 {
-    let topped = window::topped_up(fd, name, buffer, window, MOST_INPUT);
+    let topped = window::topped_up(file, err, name, buffer, window, MOST_INPUT);
     let lent = topped.window;
     if topped.failed {
         return Turned {
@@ -113,17 +131,25 @@ fn turn(
             goes_on: false,
         };
     }
-    taken(kind, buffer, out, lent)
+    taken(kind, to, err, buffer, out, lent)
 }
 
 // The inputs of a file, one after the other. A proved loop has to end, so it counts its turns down, from a number that no run uses up.
-fn all(kind: Kind, fd: i32, name: &[u8], buffer: &mut [u8], out: &mut [u8])
+fn all<R: Read, W: Write, E: Write>(
+    kind: Kind,
+    file: &mut R,
+    to: &mut W,
+    err: &mut E,
+    name: &[u8],
+    buffer: &mut [u8],
+    out: &mut [u8],
+)
     requires { (most_input ≤ length buffer.old) × (most_text ≤ length out.old) }
 {
     let mut window = Window::empty();
     let mut turns = u64::MAX;
     while turns > 0 {
-        let turned = turn(kind, fd, name, buffer, out, window);
+        let turned = turn(kind, file, to, err, name, buffer, out, window);
         if !turned.goes_on {
             return;
         }
@@ -140,47 +166,48 @@ fn empty_buffer() -> [u8; BUFFER]
 }
 
 // The inputs of an open file, with buffers of their own.
-fn run(kind: Kind, fd: i32, name: &[u8]) {
+fn run<R: Read>(rt: &HostRuntime, kind: Kind, file: &mut R, name: &[u8]) {
     let mut buffer = empty_buffer();
     let mut out = empty_buffer();
-    all(kind, fd, name, &mut buffer, &mut out);
+    let mut to = rt.stdout();
+    let mut err = rt.stderr();
+    all(kind, file, &mut to, &mut err, name, &mut buffer, &mut out);
 }
 
 // What the first argument asks for.
-fn asked() -> Kind {
-    let mut word = io::buffer();
-    let size = os::arg(1, &mut word);
-    kind_of(&word[..size])
+fn asked(rt: &HostRuntime) -> Kind {
+    let mut room = [0u8; MOST_WORD];
+    kind_of(text::arg(rt, 1, &mut room).unwrap_or(b""))
 }
 
 // Opens the file that the second argument names, and takes its inputs.
-fn run_named(kind: Kind) {
-    let mut name = io::buffer();
-    let size = os::arg(2, &mut name);
-    let fd = window::open_file(&name[..size], b"FILE");
-    if fd < 0 {
-        return;
+fn run_named(rt: &HostRuntime, kind: Kind) {
+    let mut room = [0u8; MOST_WORD];
+    let name = text::arg(rt, 2, &mut room);
+    let mut err = rt.stderr();
+    if let Some(mut file) = window::open_file(rt, &mut err, name, b"FILE") {
+        run(rt, kind, &mut file, name.unwrap_or(b""));
     }
-    run(kind, fd, &name[..size]);
-    libc::close(fd);
 }
 
 // Says what the arguments are.
-fn usage() {
+fn usage(rt: &HostRuntime) {
+    let mut err = rt.stderr();
     text::say(
+        &mut err,
         b"single: the arguments are steps, packets, messages, writes, calls or tables, and FILE\n",
     );
 }
 
-fn main() {
-    if os::arg_count() != 3 {
-        usage();
+fn main(rt: HostRuntime) {
+    if text::arg_count(&rt) != 3 {
+        usage(&rt);
         return;
     }
-    let kind = asked();
+    let kind = asked(&rt);
     if let Kind::None = kind {
-        usage();
+        usage(&rt);
         return;
     }
-    run_named(kind);
+    run_named(&rt, kind);
 }

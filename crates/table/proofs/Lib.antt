@@ -1,3 +1,2 @@
-pub mod Frame
-pub mod Walk
+-- What the answers of the calls share.
 pub mod Slot

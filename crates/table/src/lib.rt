@@ -1,4 +1,6 @@
 // The table of connections, a lent slice of records: a call on one slot, and the same for whoever owns a table of 64.
+#![tactic(auto)]
+
 ghost use Rattle.std.specs.Prelude.{◌≡◌, []};
 ghost use Rattle.connection.specs.Connection.{no_count};
 ghost use Rattle.calls.specs.declared.Call.{Call};
@@ -136,7 +138,7 @@ pub fn close(table: &mut [Connection], slot: usize) -> Answer
 }
 
 // A call's answer, and the table that it leaves.
-#[derive(Drop)]
+#[derive(Clone, Copy)]
 pub struct Held {
     pub answer: Answer,
     pub table: [Connection; MOST_RECORDS],

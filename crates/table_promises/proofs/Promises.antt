@@ -2,7 +2,7 @@
 -- Assumes nothing.
 use Prim.Native.Nat.{ℕ, ◌<◌}
 use mathlib.Core.Path.{◌≡◌, refl, sym, subst, ◌∙◌, ap}
-use mathlib.Core.Bool.{Bool, true, false, not, ◌&&◌}
+use mathlib.Core.Bool.{Bool, true, false, ◌&&◌}
 use mathlib.Core.List.{List}
 use mathlib.Core.Logic.{inl}
 use Rattle.rules.specs.Rows.{when◌answer◌else◌}
@@ -45,7 +45,7 @@ next_valid o s = go o.released refl
 
 -- a slot that is not refused is one of the table's
 inside : (n i : ℕ) → bad_slot n i ≡ false → i < n
-inside n i e = in_range n i (subst (λ (b : Bool). T (not b)) (sym e) tt)
+inside n i e = in_range n i e
 
 -- either the slot is refused or it is not
 either : {P : Type 0} (b : Bool) → (b ≡ true → P) → (b ≡ false → P) → P

@@ -1,1 +1,2 @@
 // What the table promises beyond its equations: no code, definitions and theorems over `table`.
+#![tactic(auto)]

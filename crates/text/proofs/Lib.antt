@@ -1,5 +1,5 @@
 pub mod Puts
 pub mod Places
-pub mod Decimal
 pub mod Words
 pub mod Line
+pub mod Decimal

@@ -1,10 +1,11 @@
 -- Two words are the same exactly where their bytes are equal.
 -- Assumes nothing.
 use Prim.Native.Nat.{ℕ}
-use mathlib.Core.Path.{◌≡◌, refl, sym, subst}
+use mathlib.Core.Path.{◌≡◌, refl, sym, ap, subst}
 use mathlib.Core.Bool.{Bool, true, false, ◌&&◌, false≢true}
 use mathlib.Core.List.{List, [], ◌∷◌}
 use lib.Dec.{eqb}
+use lib.Pointwise.{pointwise}
 use borrow.Author.Tests.{eqb-true, eq-eqb}
 use Rattle.text.specs.Text.{same_word}
 
@@ -19,12 +20,12 @@ one_answer true false f g = sym (f refl)
 one_answer false true f g = g refl
 one_answer false false f g = refl
 
-same_itself : (word : List ℕ) → same_word word word ≡ true
+pub same_itself : (word : List ℕ) → same_word word word ≡ true
 unfolding same_word
 same_itself [] = refl
 same_itself (x ∷ xs) = rw (eq-eqb x x refl) (same_itself xs)
 
-same_bytes : (word other : List ℕ) → same_word word other ≡ true → word ≡ other
+pub same_bytes : (word other : List ℕ) → same_word word other ≡ true → word ≡ other
 unfolding same_word
 same_bytes [] [] e = refl
 same_bytes [] (y ∷ ys) e = absurd (false≢true e)
@@ -41,3 +42,11 @@ same_answer r word other f g =
     one_answer r (same_word word other)
     (λ e. subst (λ (w : List ℕ). same_word word w ≡ true) (f e) (same_itself word))
     (λ e. g (same_bytes word other e))
+
+-- `==` answers the same
+pub compared : (word other : List ℕ) → pointwise eqb word other ≡ same_word word other
+unfolding same_word
+compared [] [] = refl
+compared [] (y ∷ ys) = refl
+compared (x ∷ xs) [] = refl
+compared (x ∷ xs) (y ∷ ys) = ap (λ (rest : Bool). eqb x y && rest) (compared xs ys)

@@ -1,6 +1,6 @@
 -- Text put into an out buffer, room for it, numbers in decimal, and the choice between two words.
 -- Assumes nothing.
-use Rattle.std.specs.Prelude.{ℕ, zero, suc, ◌+◌, ◌-◌, ◌/◌, ◌%◌, Bool, true, false, ◌&&◌, List, [], ◌∷◌, ◌++◌, ◌≡◌, eqb, ltb, length}
+use Rattle.std.specs.Prelude.{ℕ, zero, suc, ◌+◌, ◌-◌, ◌/◌, ◌%◌, Bool, true, false, ◌&&◌, List, [], ◌∷◌, ◌++◌, ◌≡◌, eqb, ltb, length, take, ⊤, Option, None, Some}
 use Rattle.std.proofs.lemmas.List.Edits.{sets}
 use Rattle.rules.specs.Rows.{when◌answer◌else◌}
 use Rattle.text.specs.declared.Chosen.{Chosen}
@@ -15,6 +15,13 @@ pub record PutAt (before : List ℕ) (at : ℕ) (text after : List ℕ) (next : 
 abbrev pub PutsAgree : Type 0
 PutsAgree = (before : List ℕ) (at : ℕ) (text after after' : List ℕ) (next next' : ℕ)
     → PutAt before at text after next → PutAt before at text after' next' → (after ≡ after') × (next ≡ next')
+
+-- TRACE-16, CUT-3: what was written by then, where it is known, so that with what the out buffer holds before the place it is all that was
+-- written and held before
+abbrev pub RoomMade : Option (List ℕ) → Option (List ℕ) → List ℕ → ℕ → ℕ → Type 0
+RoomMade None new out at place = ⊤
+RoomMade (Some xs) None out at place = ⊥
+RoomMade (Some xs) (Some ys) out at place = ys ++ take place out ≡ xs ++ take at out
 
 -- TRACE-16, CUT-3: the place in an out buffer of this size for so many bytes at the most: where they have no room behind the place, what
 -- the buffer holds is written, and the place is 0 again

@@ -1,10 +1,20 @@
 // Text in an out buffer: numbers, offsets, ages and bytes, one word after the other; room for it, and writing it; the choice of a word.
-ghost use Rattle.std.specs.Prelude.{◌≡◌, ◌+◌, ◌*◌, ◌≤◌, ◌<◌, length, take, drop};
-ghost use Rattle.text.specs.Text.{PutAt, place_of, digit, most_digits, decimal_of, same_word, chosen_of};
+// And the words of a command line, and what is said of an error.
+#![tactic(auto)]
+
+mod arguments;
+mod reason;
+
+ghost use Rattle.std.specs.Prelude.{◌≡◌, true, false, ◌+◌, ◌*◌, ◌≤◌, ◌<◌, length, take, drop};
+ghost use Rattle.std.specs.Io.KnownBytes.{Appends};
+ghost use Rattle.text.specs.Text.{PutAt, RoomMade, place_of, digit, most_digits, decimal_in, decimal_of, same_word, chosen_of};
 ghost use Rattle.text.specs.Line.{number_word, end_of, signed_word, offset_word, age_word, digits_of, bytes_word, all_before, written_words};
 ghost use Rattle.text.specs.Line.{most_number, most_end, most_signed, most_offset, most_age, most_bytes_word, most_written_words};
 
+pub use arguments::{arg, arg_count};
 use clock::{Age, Offset};
+pub use reason::fail;
+use std::io::Write;
 
 // The most digits of a number, and the most bytes of one after a space.
 pub const MOST_DIGITS: usize = 20;
@@ -15,21 +25,21 @@ pub const MOST_NUMBER: usize = 1 + MOST_DIGITS;
 pub const BEFORE: u8 = 0xA5;
 
 // A place in the out buffer with the room that was asked for, and whether writing what the buffer held failed.
-#[derive(Drop)]
+#[derive(Clone, Copy)]
 pub struct Place {
     pub at: usize,
     pub failed: bool,
 }
 
 // What came of an input: the place after its text in the out buffer, and how many bytes of its file it used; none where it is not whole.
-#[derive(Drop)]
+#[derive(Clone, Copy)]
 pub struct Done {
     pub next: usize,
     pub used: usize,
 }
 
 // Which of two words a word is.
-#[derive(Drop)]
+#[derive(Clone, Copy)]
 pub enum Chosen {
     First,
     Second,
@@ -54,15 +64,29 @@ pub fn put(out: &mut [u8], at: usize, s: &[u8]) -> usize
     at + s.len()
 }
 
+// Puts a number in decimal at a place, in at most so many digits, and answers the place after it.
+fn put_decimal_in(out: &mut [u8], at: usize, n: u64, most: usize) -> usize
+    requires { at + most ≤ length out.old }
+    ensures put_at { PutAt out.old at (decimal_in most n) out.new result }
+    ensures upper_bound { result ≤ at + most }
+{
+    if most == 0 {
+        return at;
+    }
+    if n < 10 {
+        return put(out, at, &[digit(n as u8)]);
+    }
+    let next = put_decimal_in(out, at, n / 10, most - 1);
+    put(out, next, &[digit((n % 10) as u8)])
+}
+
 // Puts a number in decimal at a place, and answers the place after it.
 pub fn put_decimal(out: &mut [u8], at: usize, n: u64) -> usize
     requires { at + most_digits ≤ length out.old }
     ensures put_at { PutAt out.old at (decimal_of n) out.new result }
     ensures upper_bound { result ≤ at + most_digits }
 {
-    let mut digits = [0u8; MOST_DIGITS];
-    let count = io::decimal(n, &mut digits);
-    put(out, at, &digits[..count])
+    put_decimal_in(out, at, n, MOST_DIGITS)
 }
 
 // A number after a space.
@@ -198,49 +222,60 @@ pub fn put_written(out: &mut [u8], at: usize, lent: &[u8], written: usize) -> us
 }
 
 // Writes the first bytes of the out buffer to standard output, and answers whether all were written.
-pub fn print(out: &[u8], at: usize) -> bool
+pub fn print<W: Write>(to: &mut W, out: &[u8], at: usize) -> bool
     requires { at ≤ length out.now }
+    ensures { result ≡ true → Appends (W.contents to.old) (W.contents to.new) (take at out.now) }
 {
-    io::write_all(libc::STDOUT_FILENO, &out[..at])
+    to.write_all(&out[..at]).is_ok()
 }
 
-// The same, and says why where they can't be.
-pub fn written(out: &[u8], at: usize) -> bool
+// The same, and says on standard error why where they can't be.
+pub fn written<W: Write, E: Write>(to: &mut W, err: &mut E, out: &[u8], at: usize) -> bool
     requires { at ≤ length out.now }
+    ensures { result ≡ true → Appends (W.contents to.old) (W.contents to.new) (take at out.now) }
 {
-    let whole = print(out, at);
-    if !whole {
-        os::fail(b"standard output");
+    match to.write_all(&out[..at]) {
+        Ok(()) => true,
+        Err(why) => {
+            fail(err, b"standard output", why);
+            false
+        }
     }
-    whole
 }
 
 // Makes room for so many bytes behind a place: where there is not enough, what the out buffer holds is written.
-pub fn make_room(out: &[u8], at: usize, most: usize) -> Place
+pub fn make_room<W: Write, E: Write>(
+    to: &mut W,
+    err: &mut E,
+    out: &[u8],
+    at: usize,
+    most: usize,
+) -> Place
     requires { (at ≤ length out.now) × (most ≤ length out.now) }
     ensures at_value { result.at ≡ place_of most (length out.now) at }
     ensures most_in_bounds { result.at + most ≤ length out.now }
+    ensures writes { result.failed ≡ false → RoomMade (W.contents to.old) (W.contents to.new) out.now at result.at }
 {
     if most <= out.len() - at {
         return Place { at, failed: false };
     }
-    let whole = written(out, at);
+    let whole = written(to, err, out, at);
     Place {
         at: 0,
         failed: !whole,
     }
 }
 
-// Says one line on standard error.
-pub fn say(line: &[u8]) {
-    io::write_all(libc::STDERR_FILENO, line);
+// Says these lines on standard error.
+pub fn say<E: Write>(err: &mut E, line: &[u8]) {
+    let _ = err.write_all(line);
 }
 
 // Whether two words are the same.
 fn same_word(word: &[u8], other: &[u8]) -> bool
     ensures { result ≡ same_word word.now other.now }
 {
-    check::same(word, other)
+    word == other
 }
 
 pub fn chosen_of(word: &[u8], first: &[u8], second: &[u8]) -> Chosen
@@ -253,4 +288,23 @@ pub fn chosen_of(word: &[u8], first: &[u8], second: &[u8]) -> Chosen
         return Chosen::Second;
     }
     Chosen::Neither
+}
+
+#[cfg(test)]
+mod tests {
+    use super::*;
+
+    // The first bytes go behind those that the writer has.
+    #[test]
+    fn prints_the_first_bytes(rt: HostRuntime) {
+        let mut to = Vec::new(rt.alloc());
+        assert!(rt;
+            print(&mut to, b"abcd", 3) && print(&mut to, b"ef", 1),
+            "all is written"
+        );
+        assert!(rt;
+            to.as_slice() == b"abce".as_slice(),
+            "the first bytes of each"
+        );
+    }
 }

@@ -15,7 +15,7 @@ use Rattle.connection.specs.declared.Connection.{Connection}
 use Rattle.connection.specs.Connection.{closed, no_settings}
 use Rattle.what_follows.specs.declared.Outcome.{Outcome}
 use Rattle.calls.specs.declared.Call.{Call}
-use Rattle.calls.specs.Calls.{bad, responder, begin_refusal, refused, begin_outcome, tick_outcome, close_outcome, outcome_of, given, Leaves, made}
+use Rattle.calls.specs.Calls.{bad, responder, begin_refusal, refused, begin_outcome, tick_outcome, close_outcome, outcome_of, given, made}
 use Rattle.calls.proofs.Replies.{tick_silent, close_silent, silent_leaves}
 use Rattle.trace.specs.Record.{begin_kind, receive_kind, send_kind, tick_kind}
 use Rattle.trace.specs.Call.{room, begin_widths, given_from, no_role, given_in, call_of, OthersGive104, NoBytesOfTickAndClose}

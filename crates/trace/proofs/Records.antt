@@ -25,9 +25,9 @@ either : (a b : Bool) → b ≡ true → (a || b) ≡ true
 either true b e = refl
 either false b e = e
 
-not_either : (a b : Bool) → (a || b) ≡ false → b ≡ false
-not_either true b e = absurd (false≢true (sym e))
-not_either false b e = e
+neither : (a b : Bool) → (a || b) ≡ false → (a ≡ false) × (b ≡ false)
+neither true b e = absurd (false≢true (sym e))
+neither false b e = (refl, e)
 
 -- what follows a fault does not matter
 after_fault : (a over b b' : Bool) → (over ≡ false → b ≡ b') → (a || over || b) ≡ (a || over || b')
@@ -69,8 +69,23 @@ whole_fits s r = by (eqb (length s) 0) (is_bad s (fields_at s)) refl
     by false false b e =
         let same : fields_at s ≡ r = cc in
         let f = fields_at s in
-        let fits = ltb-false (length s) (size_of f) (not_either (bad_fields f) (ltb (length s) (size_of f)) b) in
+        let fits = ltb-false (length s) (size_of f) (neither (bad_fields f) (ltb (length s) (size_of f)) b).1 in
         rw (← same) fits
+
+-- and has no more bytes than a record may have
+pub whole_small : (s : List ℕ) (r : Record) → record_of s ≡ Whole r → r.length ≤ most_record_bytes
+unfolding record_of length_over
+whole_small s r = by (eqb (length s) 0) (is_bad s (fields_at s)) refl
+  where
+    by : (none bad : Bool) → is_bad s (fields_at s) ≡ bad → (when none answer End else when bad answer Bad else Whole (fields_at s)) ≡ Whole r → r.length ≤ most_record_bytes
+    by true bad b e = let z : ◌≡◌ {A = ℕ} 0 1 = cc in let f : ⊥ = omega arith in absurd f
+    by false true b e = let z : ◌≡◌ {A = ℕ} 0 1 = cc in let f : ⊥ = omega arith in absurd f
+    by false false b e =
+        let same : fields_at s ≡ r = cc in
+        let f = fields_at s in
+        let fields = neither (bad_fields f) (cut_record s f) b in
+        let few = ltb-false most_record_bytes f.length (neither (wrong_mark f || unknown_kind f) (ltb most_record_bytes f.length) fields.0).1 in
+        rw (← same) few
 
 -- bytes that follow are not looked at
 module _ (s rest : List ℕ) where
@@ -78,7 +93,7 @@ module _ (s rest : List ℕ) where
   field_front at w h = field_same (s ++ rest) s at at w (λ k l. get_or-append s rest 0 (at + k) (omega arith))
 
   module _ (many : most_record ≤ length s) where
-    same_fields : fields_at (s ++ rest) ≡ fields_at s
+    pub same_fields : fields_at (s ++ rest) ≡ fields_at s
     same_fields =
         cc (field_front 0 2 (omega arith), field_front 2 1 (omega arith), field_front 3 1 (omega arith), field_front 4 4 (omega arith), field_front 8 2 (omega arith))
 

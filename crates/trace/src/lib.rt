@@ -1,4 +1,6 @@
 // The records of a trace, and the call that each makes.
+#![tactic(auto)]
+
 ghost use Rattle.std.specs.Prelude.{◌≡◌, ◌≤◌, length};
 ghost use Rattle.calls.specs.Calls.{leaves};
 ghost use Rattle.trace.specs.Record.{fields_at, fields_size, size_of, record_bytes, bad_fields, record_of};
@@ -12,15 +14,15 @@ use connection::{Connection, Own, Settings};
 pub const FIELDS_SIZE: usize = 10;
 
 // The most bytes behind them: TRACE-10.
-const MOST_RECORD_BYTES: u16 = 1000;
+pub const MOST_RECORD_BYTES: u16 = 1000;
 
 // The most bytes of a record, with those of its fields: a window with fewer may cut it.
 pub const MOST_RECORD: usize = FIELDS_SIZE + MOST_RECORD_BYTES as usize;
 
-const MARK: u16 = 0x5232;
+pub const MARK: u16 = 0x5232;
 
 // The kinds, by their numbers: TRACE-2.
-const BEGIN: u8 = 1;
+pub const BEGIN: u8 = 1;
 
 const RECEIVE: u8 = 2;
 
@@ -40,7 +42,7 @@ const NO_ROLE: u8 = 255;
 pub const ROOM: usize = 1000;
 
 // A record of a trace, without its bytes.
-#[derive(Drop)]
+#[derive(Clone, Copy)]
 pub struct Record {
     pub mark: u16,
     pub kind: u8,
@@ -50,7 +52,7 @@ pub struct Record {
 }
 
 // What stands first in the bytes that are left of a trace.
-#[derive(Drop)]
+#[derive(Clone, Copy)]
 pub enum Next {
     End,
     Bad,
@@ -58,7 +60,7 @@ pub enum Next {
 }
 
 // The fields of the record that stands first.
-fn fields_at(s: &[u8]) -> Record
+pub fn fields_at(s: &[u8]) -> Record
     requires { fields_size ≤ length s.now }
     ensures { result ≡ fields_at s.now }
 {

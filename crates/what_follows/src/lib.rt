@@ -1,4 +1,6 @@
 // What follows when the peer's message was judged, by value: what it does to a connection, and what is sent back.
+#![tactic(auto)]
+
 ghost use Rattle.std.specs.Prelude.{◌≡◌};
 ghost use Rattle.what_follows.specs.Follows.{
   comes_to,
@@ -36,14 +38,14 @@ use message::{
 use peer_faults::{Expectation, Fault};
 
 // What is sent back.
-#[derive(Drop)]
+#[derive(Clone, Copy)]
 pub enum Reply {
     Nothing,
     Send(Header, Tail),
 }
 
 // What a call comes to.
-#[derive(Drop)]
+#[derive(Clone, Copy)]
 pub struct Outcome {
     // 0, or the number of the fault.
     pub number: u16,

@@ -10,8 +10,7 @@ use mir.Syntax.{w64}
 use mir.Val.{SFits, of_z}
 use lib.IntN.{ℤ, pos, negsuc}
 use lib.Signed.{lt_z}
-use Rattle.libc.specs.Io.{Moved}
-use Rattle.io.specs.Counts.{clamp_len}
+use Rattle.window.specs.Answers.{Moved, clamp_len}
 use Rattle.rules.proofs.Tests.{tests}
 use Rattle.window.specs.Window.{failed_by, is_nought, ended_by, came_by}
 use Rattle.window.specs.declared.Read.{Read}

@@ -2,8 +2,7 @@
 -- Assumes nothing.
 use Rattle.std.specs.Prelude.{ℕ, ◌+◌, ◌-◌, ◌≤◌, ◌≡◌, Bool, true, false, not, ◌&&◌, List, ltb, eqb, ℤ, pos, negsuc, length, take, drop}
 use Rattle.std.specs.Int.Signed.{lt_z}
-use Rattle.libc.specs.Io.{Moved}
-use Rattle.io.specs.Counts.{clamp_len}
+use Rattle.window.specs.Answers.{Moved, clamp_len}
 use Rattle.window.specs.declared.Window.{Window}
 use Rattle.window.specs.declared.Read.{Read}
 use Rattle.window.specs.declared.Filled.{Filled}

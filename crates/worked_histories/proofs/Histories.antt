@@ -61,9 +61,9 @@ module _ {W : World} {began : W.Moment} {role : ℕ} {settings : Settings} {log 
   ticked = called history u h Call.Tick [] 0 (λ e. absurd (true≢false (sym e))) (λ _ _. tt)
 
 -- any receive on an open record
-pub goes_on : {W : World} {began : W.Moment} {role : ℕ} {settings : Settings} (p : Place W) → Reaches W began role settings p
+pub goes_on_lem : {W : World} {began : W.Moment} {role : ℕ} {settings : Settings} (p : Place W) → Reaches W began role settings p
     → p.c.phase ≡ opened → (u : W.Moment) → W.early p.last u → (message : List ℕ) → Reaches W began role settings (receive W p u message)
-goes_on p history is_open u h message =
+goes_on_lem p history is_open u h message =
     received history u h message room (λ f _. absurd (true≢false (sym (ap (λ (x : ℕ). eqb x opened) is_open) ∙ f)))
 
 -- a message of type 6

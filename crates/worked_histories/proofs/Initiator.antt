@@ -23,7 +23,7 @@ use Rattle.worked_histories.specs.Histories.{room}
 use Rattle.worked_histories.specs.SetUp.{at_initiator, our_start}
 use Rattle.worked_histories.specs.Initiator.{peers, settings, fresh_message, gap_message, late_message, future_message, world, after_send, after_fresh, after_gap, after_late, after_tick, after_future, InitiatorMeets, slow_peers, settings200, LateReached}
 use Rattle.worked_histories.proofs.Worlds.{past_most, responders_run, gaining_runs, responders_stand, at_least, at_most}
-use Rattle.worked_histories.proofs.Histories.{Reaches, sent, ticked, goes_on, judges}
+use Rattle.worked_histories.proofs.Histories.{Reaches, sent, ticked, goes_on_lem, judges}
 use Rattle.worked_histories.proofs.SetUp.{initiator_set_up}
 
 runs : DoesNotRunBack peers
@@ -65,19 +65,19 @@ initiator_meets =
     sends_4 = sent (initiator_set_up peers runs refl refl refl settings refl newest) 1130 (lit≤ tt) (replicate 4 0x55) room
 
     takes_fresh : Reaches (world runs) 1000 initiator settings (after_fresh runs)
-    takes_fresh = goes_on (after_send runs) sends_4 refl 1172 (lit≤ tt) fresh_message
+    takes_fresh = goes_on_lem (after_send runs) sends_4 refl 1172 (lit≤ tt) fresh_message
 
     takes_gap : Reaches (world runs) 1000 initiator settings (after_gap runs)
-    takes_gap = goes_on (after_fresh runs) takes_fresh refl 1215 (lit≤ tt) gap_message
+    takes_gap = goes_on_lem (after_fresh runs) takes_fresh refl 1215 (lit≤ tt) gap_message
 
     takes_late : Reaches (world runs) 1000 initiator settings (after_late runs)
-    takes_late = goes_on (after_gap runs) takes_gap refl 1271 (lit≤ tt) late_message
+    takes_late = goes_on_lem (after_gap runs) takes_gap refl 1271 (lit≤ tt) late_message
 
     ticks : Reaches (world runs) 1000 initiator settings (after_tick runs)
     ticks = ticked takes_late 1500 (lit≤ tt)
 
     takes_future : Reaches (world runs) 1000 initiator settings (after_future runs)
-    takes_future = goes_on (after_tick runs) ticks refl 2139 (lit≤ tt) future_message
+    takes_future = goes_on_lem (after_tick runs) ticks refl 2139 (lit≤ tt) future_message
 
 -- ---- the peer's clock stands still
 

@@ -22,7 +22,7 @@ use Rattle.worked_histories.specs.SetUp.{at_responder, our_answ1}
 use Rattle.worked_histories.specs.Initiator.{settings200}
 use Rattle.worked_histories.specs.Responder.{peers, settings, fresh_message, gap_message, late_message, future_message, world, after_end, after_fresh, after_gap, after_late, after_future, ResponderMeets, slow_peers, ResponderLateReached}
 use Rattle.worked_histories.proofs.Worlds.{past_most, responders_run, initiators_stand, gaining_runs, at_least, at_most}
-use Rattle.worked_histories.proofs.Histories.{Reaches, goes_on, judges}
+use Rattle.worked_histories.proofs.Histories.{Reaches, goes_on_lem, judges}
 use Rattle.worked_histories.proofs.SetUp.{responder_set_up}
 
 runs : DoesNotRunBack peers
@@ -65,16 +65,16 @@ responder_meets =
     opens = responder_set_up peers responders_run runs refl refl refl refl settings refl newest
 
     takes_fresh : Reaches (world responders_run runs) 1000 responder settings (after_fresh responders_run runs)
-    takes_fresh = goes_on (after_end responders_run runs) opens refl 1215 (lit≤ tt) fresh_message
+    takes_fresh = goes_on_lem (after_end responders_run runs) opens refl 1215 (lit≤ tt) fresh_message
 
     takes_gap : Reaches (world responders_run runs) 1000 responder settings (after_gap responders_run runs)
-    takes_gap = goes_on (after_fresh responders_run runs) takes_fresh refl 1260 (lit≤ tt) gap_message
+    takes_gap = goes_on_lem (after_fresh responders_run runs) takes_fresh refl 1260 (lit≤ tt) gap_message
 
     takes_late : Reaches (world responders_run runs) 1000 responder settings (after_late responders_run runs)
-    takes_late = goes_on (after_gap responders_run runs) takes_gap refl 1316 (lit≤ tt) late_message
+    takes_late = goes_on_lem (after_gap responders_run runs) takes_gap refl 1316 (lit≤ tt) late_message
 
     takes_future : Reaches (world responders_run runs) 1000 responder settings (after_future responders_run runs)
-    takes_future = goes_on (after_late responders_run runs) takes_late refl 2124 (lit≤ tt) future_message
+    takes_future = goes_on_lem (after_late responders_run runs) takes_late refl 2124 (lit≤ tt) future_message
 
 -- ---- the peer's clock stands still
 

@@ -22,7 +22,7 @@ use Rattle.worked_histories.specs.Histories.{room}
 use Rattle.worked_histories.specs.Initiator.{settings200}
 use Rattle.worked_histories.specs.Wrap.{ours, peers, answ1, est, fresh_message, world, our_start, after_est, AcrossTheWrap}
 use Rattle.worked_histories.proofs.Worlds.{at_least, at_most}
-use Rattle.worked_histories.proofs.Histories.{type_4_on, Reaches, received, goes_on, judges}
+use Rattle.worked_histories.proofs.Histories.{type_4_on, Reaches, received, goes_on_lem, judges}
 
 ours_runs : DoesNotRunBack ours
 ours_runs t u h = omega arith
@@ -47,7 +47,7 @@ across_the_wrap =
       band = band;
       fresh = judges opens refl
           (lit≤ tt) (lit≤ tt) (lit≤ tt) (data_tail 1) refl (lit< tt) refl (our_start ours_runs runs) (earlier (earlier newest)) refl refl;
-      late = judges (goes_on (after_est ours_runs runs) opens refl 930 (lit≤ tt) fresh_message) refl
+      late = judges (goes_on_lem (after_est ours_runs runs) opens refl 930 (lit≤ tt) fresh_message) refl
           (lit≤ tt) (lit≤ tt) (lit≤ tt) (data_tail 1) refl (lit< tt) refl (our_start ours_runs runs) (earlier (earlier newest)) refl refl;
     }
   where

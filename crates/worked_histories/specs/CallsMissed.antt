@@ -102,7 +102,8 @@ pub record BegunAfter : Type 0 where
   pub est_since : (at_initiator quick_peers runs).early 1030 1095
   pub message_since : (at_initiator quick_peers runs).early 1030 1200
   -- all else is as supposed; but OffsetStart was written at 1000
-  pub message : Judges (at_initiator quick_peers runs) 1000 1000 initiator settings200 (initiator_open quick_peers runs settings200) 1200 1370
+  pub message : Judges (at_initiator quick_peers runs) 1000 1000 initiator settings200 (initiator_open quick_peers runs settings200)
+      1200 1370
       reported_message quick_band0 quick_numbers
   pub begun_missed : ¬ ((at_initiator quick_peers runs).early 1030 1000)
   pub claim_fails : ¬ (Claimed settings200 (initiator_open quick_peers runs settings200).c quick_band0 quick_numbers)

@@ -105,7 +105,8 @@ pub record SentBefore : Type 0 where
   pub runs : DoesNotRunBack standing_before
   pub band : StaysInBand (at_initiator standing_before runs) 1000 0
   -- all else is as supposed of a message sent since 0
-  pub message : Judges (at_initiator standing_before runs) 1000 0 initiator settings200 (initiator_open standing_before runs settings200) 0 1120
+  pub message : Judges (at_initiator standing_before runs) 1000 0 initiator settings200 (initiator_open standing_before runs settings200)
+      0 1120
       earlier_message band0 earlier_numbers
   pub since_missed : ¬ ((at_initiator standing_before runs).early 1000 0)
   pub claim_fails : ¬ (Claimed settings200 (initiator_open standing_before runs settings200).c band0 earlier_numbers)

@@ -131,7 +131,8 @@ early_est =
 
 -- its OffsetAnsw1 arrives at 812
 unfoldable pub early_gets_answ1 : Settings → Outcome
-early_gets_answ1 s = receive_outcome (begin_outcome all_zero (given initiator s 7 50) (count 800) start_size).next (count 812) early_answ1 est_size
+early_gets_answ1 s =
+    receive_outcome (begin_outcome all_zero (given initiator s 7 50) (count 800) start_size).next (count 812) early_answ1 est_size
 
 -- its OffsetEst arrives at 820
 unfoldable pub early_gets_est : Settings → Outcome

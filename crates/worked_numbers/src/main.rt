@@ -1,12 +1,15 @@
 // The worked numbers (NUM-1 to NUM-16) that concern clocks, numbers and fields, run and printed: stdout has what must come.
 // The starred ones are proved in the table of specs/Worked, and there alone (OPEN-4).
+#![tactic(auto)]
+
 ghost use Rattle.std.specs.Prelude.{◌≡◌, pos, ◌-ℤ◌};
 ghost use Rattle.clock.specs.Clock.{centred, age_of};
 ghost use Rattle.worked_numbers.specs.Worked.{offsets};
 
 use clock::{Age, Count, Offset, Verdict};
 use connection::Offsets;
-use libc::STDOUT_FILENO;
+use std::io;
+use std::io::Print;
 
 // Of one exchange: our message sent, its reported arrival, the answer's arrival, its stamp.
 fn exchange(sent: u32, reported: u32, arrived: u32, stamp: u32) -> Offsets
@@ -33,7 +36,7 @@ fn age(now: u32, stamp: u32, o: Offsets) -> Age
     Age::of(Count(now), Count(stamp), 0, min)
 }
 
-#[derive(Drop)]
+#[derive(Clone, Copy)]
 struct Ages {
     later: Age,
     present: Age,
@@ -65,69 +68,60 @@ fn carried(o: Offset, out: &mut [u8; 5]) {
     field::write(out, 1, 4, c.magnitude);
 }
 
-fn text(s: &[u8]) {
-    io::write_all(STDOUT_FILENO, s);
+fn number_line(rt: &impl Print, what: &str, below_zero: bool, size: u32) -> io::Result<()> {
+    let sign = if below_zero { "-" } else { "" };
+    println!(rt; "{what}{sign}{size}")
 }
 
-fn number_line(what: &[u8], below_zero: bool, size: u32) {
-    text(what);
-    if below_zero {
-        text(b"-");
-    }
-    io::print_decimal(STDOUT_FILENO, size as u64);
-    text(b"\n");
+fn offset_line(rt: &impl Print, what: &str, o: Offset) -> io::Result<()> {
+    number_line(rt, what, o.negative(), o.size())
 }
 
-fn offset_line(what: &[u8], o: Offset) {
-    number_line(what, o.negative(), o.size());
-}
-
-fn verdict_line(what: &[u8], v: Verdict) {
+fn verdict_line(rt: &impl Print, what: &str, v: Verdict) -> io::Result<()> {
     match v {
-        Verdict::Future => number_line(what, false, 206),
-        Verdict::Late => number_line(what, false, 205),
-        Verdict::Fresh => number_line(what, false, 0),
+        Verdict::Future => number_line(rt, what, false, 206),
+        Verdict::Late => number_line(rt, what, false, 205),
+        Verdict::Fresh => number_line(rt, what, false, 0),
     }
 }
 
-fn byte_text(b: u8) {
-    text(b" ");
-    io::print_hex(STDOUT_FILENO, b as u64, 2);
+fn byte_text(rt: &impl Print, b: u8) -> io::Result<()> {
+    print!(rt; " {b:02x}")
 }
 
-fn bytes_line(what: &[u8], s: [u8; 5]) {
-    text(what);
-    byte_text(s[0]);
-    byte_text(s[1]);
-    byte_text(s[2]);
-    byte_text(s[3]);
-    byte_text(s[4]);
-    text(b"\n");
+fn bytes_line(rt: &impl Print, what: &str, s: [u8; 5]) -> io::Result<()> {
+    print!(rt; "{what}")?;
+    byte_text(rt, s[0])?;
+    byte_text(rt, s[1])?;
+    byte_text(rt, s[2])?;
+    byte_text(rt, s[3])?;
+    byte_text(rt, s[4])?;
+    println!(rt)
 }
 
-fn main() {
+fn main(rt: HostRuntime) -> io::Result<()> {
     let o = initiator_offsets();
     let p = responder_offsets();
-    offset_line(b"initiator min ", o.min);
-    offset_line(b"initiator max ", o.max);
-    offset_line(b"responder min ", p.min);
-    offset_line(b"responder max ", p.max);
+    offset_line(&rt, "initiator min ", o.min)?;
+    offset_line(&rt, "initiator max ", o.max)?;
+    offset_line(&rt, "responder min ", p.min)?;
+    offset_line(&rt, "responder max ", p.max)?;
     let a = worked_ages();
     let later = a.later;
     let present = a.present;
     let future = a.future;
     let wrapped = a.wrapped;
     let responder_age = a.responder;
-    verdict_line(b"age 40, T_max 40: ", later.verdict_of(40));
-    verdict_line(b"age 40, T_max 39: ", later.verdict_of(39));
-    verdict_line(b"age 0: ", present.verdict_of(40));
-    verdict_line(b"age -1: ", future.verdict_of(40));
-    verdict_line(b"age 36, T_max 36: ", wrapped.verdict_of(36));
-    verdict_line(b"age 36, T_max 35: ", wrapped.verdict_of(35));
-    verdict_line(b"age 45, T_max 45: ", responder_age.verdict_of(45));
-    verdict_line(b"age 45, T_max 44: ", responder_age.verdict_of(44));
-    number_line(b"last 65535, next 0: d = ", false, distance() as u32);
+    verdict_line(&rt, "age 40, T_max 40: ", later.verdict_of(40))?;
+    verdict_line(&rt, "age 40, T_max 39: ", later.verdict_of(39))?;
+    verdict_line(&rt, "age 0: ", present.verdict_of(40))?;
+    verdict_line(&rt, "age -1: ", future.verdict_of(40))?;
+    verdict_line(&rt, "age 36, T_max 36: ", wrapped.verdict_of(36))?;
+    verdict_line(&rt, "age 36, T_max 35: ", wrapped.verdict_of(35))?;
+    verdict_line(&rt, "age 45, T_max 45: ", responder_age.verdict_of(45))?;
+    verdict_line(&rt, "age 45, T_max 44: ", responder_age.verdict_of(44))?;
+    number_line(&rt, "last 65535, next 0: d = ", false, distance() as u32)?;
     let mut out = [0u8; 5];
     carried(p.min, &mut out);
-    bytes_line(b"-880 is", out);
+    bytes_line(&rt, "-880 is", out)
 }

@@ -1,0 +1,2 @@
+// What the check of a recorder file promises beyond its equations: no code.
+#![tactic(auto)]

@@ -1,0 +1,8 @@
+-- `clock::Offset::between` meets its contract: a step mod 2^32, centred. Assumes nothing.
+use Rattle.std.proofs.Common.{◌∙◌, rules}
+use Rattle.clock.proofs.Wrapped.{centred_same, wrap_sub, ≈-refl}
+use Rattle.clock.proofs.Offset.between.Goals as goal
+
+pub returns : goal.returns
+returns c =
+    c.of_bits.ensures ∙ centred_same (wrap_sub c.wrapping_sub_u32.ensures.value (≈-refl _) (≈-refl _))

@@ -1,0 +1,42 @@
+-- `recording::advance` meets its contract: a step, its line, and the progress after it. Assumes nothing.
+use mathlib.Core.Path.{◌∙◌, sym, ap, subst}
+use lib.ListN.{length, take}
+use Rattle.text.specs.Text.{PutAt}
+use Rattle.links.specs.declared.Taken.{Taken}
+use Rattle.recording.specs.Printed.{line_of}
+use Rattle.link_promises.proofs.Promises.{counts_its_user_data}
+use Rattle.recording.specs.Progress.{stepped_of, CountsItsData}
+use Rattle.recording.proofs.Windows.{uses, lies_after}
+use Rattle.recording.proofs.advance.Goals as goal
+
+pub count_data-size-requires : goal.count_data-size-requires
+count_data-size-requires c =
+    let a = c.args in
+    let counted = counts_its_user_data (take a.p.normal.to a.normal.now) a.p.normal.from (take a.p.redundant.to a.redundant.now) a.p.redundant.from a.callers.now a.ours a.p.state in record {
+      lies = c.requires.lies;
+      counts_its_data = subst (λ (t : Taken). CountsItsData a.normal.now a.redundant.now a.p t) (sym c.taken_at-taken.ensures) counted;
+    }
+
+pub stepped_of-requires : goal.stepped_of-requires
+stepped_of-requires c =
+    let taken = c.taken_at-taken in
+    let a = c.args in record {
+      uses_no_more = uses a.normal.now a.redundant.now a.callers.now a.ours a.p c.requires.lies taken.ensures;
+      handed_up_bound = c.requires.handed_up_bound;
+    }
+
+pub returns : goal.returns
+returns c =
+    let taken = c.taken_at-taken in
+    let line = c.put_counted-next in
+    let a = c.args in
+    let ns = length a.normal.now in
+    let rs = length a.redundant.now in
+    let used = uses a.normal.now a.redundant.now a.callers.now a.ours a.p c.requires.lies taken.ensures in
+    let lies = lies_after ns rs a.p c.stepped_of.result taken.result used c.requires.lies c.stepped_of.ensures in record {
+      advanced_to = record {
+        progress = c.stepped_of.ensures ∙ ap (λ (t : Taken). stepped_of t a.p) taken.ensures;
+        put = subst (λ (t : Taken). PutAt a.out.now a.at (line_of t) line.new.out line.result) taken.ensures line.ensures.put_at;
+      };
+      lies_2 = (lies.0, lies.1, line.ensures.upper_bound);
+    }
