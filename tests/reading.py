@@ -1,5 +1,6 @@
 # Reads the code for the checks of the documents: its functions with what they call, and the names that definitions and proofs give.
 import collections
+import functools
 import glob
 import os
 import re
@@ -18,22 +19,23 @@ def qualified(f):
 
 
 # The functions of one file: each begins with its `fn` line, its head ends with the line that opens the body, its body with the brace that stands below it.
+# Those of a public trait are public; one that it leaves to each `impl` has no body.
 def functions_of(path):
     crate, file = path.split("/")[1], os.path.basename(path)[:-3]
-    module, owner, head, body, closing = "" if file in ("lib", "main") else file, "", None, None, ""
+    module, owner, trait, head, body, closing = "" if file in ("lib", "main") else file, "", False, None, None, ""
     for line in open(path).read().splitlines():
         if head is None:
-            block = re.match(r"impl(?:<[^>]*>)? (\w+)", line)
-            owner = block.group(1) if block else "" if line.startswith("}") else owner
-            begins = re.match(r"(\s*)(pub )?(?:extern \"C\" )?fn (\w+)", line)
+            block = re.match(r"(?:impl(?:<[^>]*>)? (?:\w+ for )?|(pub trait ))(\w+)", line)
+            owner, trait = (block.group(2), bool(block.group(1))) if block else ("", False) if line.startswith("}") else (owner, trait)
+            begins = re.match(r"(\s*)(pub )?(?:final )?(?:extern \"C\" )?fn (\w+)", line)
             if not begins:
                 continue
-            head, body, closing, name, public = [], None, begins.group(1) + "}", begins.group(3), bool(begins.group(2))
+            head, body, closing, name, public = [], None, begins.group(1) + "}", begins.group(3), trait or bool(begins.group(2))
         if body is None:
             head.append(line)
             if re.search(r"(^|\s)\{\s*$", line):
                 body = []
-            elif line.rstrip().endswith("{}"):
+            elif line.rstrip().endswith("{}") or trait and line.rstrip().endswith(";"):
                 yield Function(crate, module, owner, name, public, "\n".join(head), "")
                 head = None
         elif line == closing:
@@ -47,20 +49,36 @@ def functions():
     return {qualified(f): f for path in sorted(glob.glob("crates/*/src/*.rt")) for f in functions_of(path)}
 
 
-# The functions that a function's body calls: `crate::f(`, `module::f(`, `Type::f(`, `f(` and `.f(`; a method is any of that name.
+# The traits of each type, by the `impl` blocks.
+@functools.cache
+def implemented():
+    found = collections.defaultdict(set)
+    for path in glob.glob("crates/*/src/*.rt"):
+        for trait, word in re.findall(r"^impl(?:<[^>]*>)? (\w+) for (\w+)", open(path).read(), re.M):
+            found[word].add(trait)
+    return found
+
+
+# The traits that a name stands for in a path: those of the type that it is, or those that bound it in a function's head.
+def traits_of(word, f):
+    return implemented()[word] | set(re.findall(r"[<,] ?%s: (\w+)" % word, f.head))
+
+
+# The functions that a function's body calls: `crate::f(`, `module::f(`, `Type::f(`, `Self::f(`, `f(`, `..f(` and `.f(`; a method is any of that name.
 def called(f, there):
     by_last = collections.defaultdict(set)
     for name in there:
         by_last[name.split("::")[-1]].add(name)
     found = set()
-    for path, dot, last in re.findall(r"((?:\w+::)*)(\.?)\b(\w+)\(", f.body):
+    for path, dot, last in re.findall(r"((?:\w+::)*)((?<!\.)\.|)\b(\w+)(?:::<\w+>)?\(", f.body):
         for name in by_last[last]:
             g = there[name]
             if dot:
                 found |= {name} if g.owner else set()
             elif path:
-                words = path.split("::")[-2]
-                found |= {name} if words in (g.crate, g.module, g.owner) else set()
+                word = path.split("::")[-2]
+                word = f.owner if word == "Self" else word
+                found |= {name} if word in (g.crate, g.module, g.owner) or traits_of(word, f) & ({g.owner} | implemented()[g.owner]) else set()
             elif (g.crate, g.module, g.owner) == (f.crate, f.module, "") or (g.crate, g.module, g.owner) == (f.crate, f.module, f.owner):
                 found.add(name)
     return found

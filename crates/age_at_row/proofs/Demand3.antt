@@ -18,7 +18,8 @@ use Rattle.clock.proofs.Wrapped.{centred_range}
 use Rattle.clock.proofs.RoundTrip.{bits_there}
 use Rattle.field.specs.Row.{fields_of}
 use Rattle.message.specs.Read.{parsed_of}
-use Rattle.message.specs.declared.Parsed.{Parsed}
+use Rattle.std.proofs.Common.{Option, Some, None}
+use Rattle.message.specs.declared.Message.{Message}
 use Rattle.connection.specs.declared.Connection.{Connection}
 use Rattle.connection.specs.declared.Settings.{Settings}
 use Rattle.connection.specs.Connection.{opened}
@@ -89,12 +90,12 @@ module _ (c : Connection) (k : ℕ) (f : callers_fault k ≡ true) where
 
 -- ---- an age that is reported fits its four bytes
 
-reported_range : (c : Connection) (now : Count) (p : Parsed) (k : ℕ) → mag (reported_by c now p k).0 < 2 ^ 31
+reported_range : (c : Connection) (now : Count) (p : Option Message) (k : ℕ) → mag (reported_by c now p k).0 < 2 ^ 31
 unfolding age_of
-reported_range c now Parsed.Malformed k = lit< tt
-reported_range c now (Parsed.Whole h t) k = go (tells_age c k)
+reported_range c now None k = lit< tt
+reported_range c now (Some m) k = go (tells_age c k)
   where
-    go : (b : Bool) → mag (when b answer (time_check_of c now h).age else record { 0 = pos 0 }).0 < 2 ^ 31
+    go : (b : Bool) → mag (when b answer (time_check_of c now m.header).age else record { 0 = pos 0 }).0 < 2 ^ 31
     go true = centred_range _
     go false = lit< tt
 

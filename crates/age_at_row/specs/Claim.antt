@@ -1,11 +1,11 @@
 -- DEMAND-3 of a receive over a row, as C calls it, and of what C reads in the answer row.
-use Rattle.std.specs.Prelude.{ℕ, ◌+◌, ◌^◌, ◌<◌, ◌≡◌, false, List, ℤ, pos, ◌+ℤ◌, ◌-ℤ◌, take, drop, get_or, ◌≤ℤ◌}
+use Rattle.std.specs.Prelude.{ℕ, ◌+◌, ◌^◌, ◌<◌, ◌≡◌, false, List, ℤ, pos, ◌+ℤ◌, ◌-ℤ◌, take, drop, get_or, ◌≤ℤ◌, Some}
 use Rattle.clock.specs.Clock.{centred}
 use Rattle.field.specs.Row.{fields_of}
 use Rattle.message.specs.Read.{parsed_of}
 use Rattle.message.specs.declared.Header.{Header}
 use Rattle.message.specs.declared.Tail.{Tail}
-use Rattle.message.specs.declared.Parsed.{Parsed}
+use Rattle.message.specs.Layout.{whole}
 use Rattle.connection.specs.declared.Settings.{Settings}
 use Rattle.connection.specs.Connection.{opened}
 use Rattle.connection_row.specs.Row.{stands_for}
@@ -53,7 +53,7 @@ Demand3AtRow =
     (log : List (Ours W)) (last : W.Moment) → Run W began role settings t row log last
     → (stands_for row).phase ≡ opened
     → (u : W.Moment) → W.early t u → InBand W began u j
-    → (message out answer_row : List ℕ) (h : Header) (s : Tail) → parsed_of message ≡ Parsed.Whole h s
+    → (message out answer_row : List ℕ) (h : Header) (s : Tail) → parsed_of message ≡ Some (whole h s)
     → (m : Judged W began log u h)
     → ClaimAtRow W began j role settings log last row u message
     (made_in Call.Receive row (count_of (W.ours u)) message out answer_row).said h m

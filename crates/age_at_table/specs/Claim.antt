@@ -1,10 +1,10 @@
 -- DEMAND-3 at the table: of a receive on a slot, as the host calls it, and of the bytes that the host gets.
-use Rattle.std.specs.Prelude.{ℕ, ◌+◌, ◌^◌, ◌<◌, ◌≡◌, List, pos, ◌+ℤ◌, ◌-ℤ◌, ◌≤ℤ◌}
+use Rattle.std.specs.Prelude.{ℕ, ◌+◌, ◌^◌, ◌<◌, ◌≡◌, List, pos, ◌+ℤ◌, ◌-ℤ◌, ◌≤ℤ◌, Some}
 use Rattle.clock.specs.declared.Count.{Count}
 use Rattle.message.specs.Read.{parsed_of}
 use Rattle.message.specs.declared.Header.{Header}
 use Rattle.message.specs.declared.Tail.{Tail}
-use Rattle.message.specs.declared.Parsed.{Parsed}
+use Rattle.message.specs.Layout.{whole}
 use Rattle.connection.specs.declared.Settings.{Settings}
 use Rattle.connection.specs.declared.Connection.{Connection}
 use Rattle.connection.specs.Connection.{opened}
@@ -43,7 +43,7 @@ Demand3AtTable =
     (log : List (Ours W)) (last : W.Moment) → Since W began slot role settings t table run log last
     → (record_at table slot).phase ≡ opened
     → (u : W.Moment) → W.early t u → InBand W began u j
-    → (message out : List ℕ) (h : Header) (s : Tail) → parsed_of message ≡ Parsed.Whole h s
+    → (message out : List ℕ) (h : Header) (s : Tail) → parsed_of message ≡ Some (whole h s)
     → (m : Judged W began log u h)
     → ClaimAtTable W began j role settings log last (record_at table slot) u message
     (made_at table slot Call.Receive (count_of (W.ours u)) message out).answer h m

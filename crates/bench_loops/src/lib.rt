@@ -18,7 +18,7 @@ const BITS: usize = 8;
 fn bit_in(register: u16, bit: u8) -> u16
     ensures { result ≡ bit_in register bit }
 {
-    if register % 2 == (bit % 2) as u16 {
+    if register % 2 == u16::from(bit % 2) {
         register >> 1
     } else {
         (register >> 1) ^ POLYNOMIAL
@@ -31,27 +31,22 @@ fn byte_by_bits(register: u16, byte: u8) -> u16
 {
     let mut q = register;
     let mut left = byte;
-    let mut k: usize = 0;
-    while k < BITS {
+    for _ in 0..BITS {
         q = bit_in(q, left % 2);
-        left = left / 2;
-        k += 1;
+        left /= 2;
     }
     q
 }
 
 // PKT-CHECK: the check of the bytes from `at` on that it covers, bit by bit.
+// Stays: a second loop beside `check_at`, and none that takes its step: bench/ times each as it stands.
 fn check_by_bits(s: &[u8], at: usize) -> u16
     requires { at + checked_bytes ≤ length s.now }
     ensures { result ≡ check_at s.now at }
 {
-    let mut q: u16 = ALL_ONES;
-    let mut k: usize = 0;
-    while k < packet::CHECKED_BYTES {
-        q = byte_by_bits(q, s[at + k]);
-        k += 1;
-    }
-    q
+    s[at..at + packet::CHECKED_BYTES]
+        .iter()
+        .fold(ALL_ONES, |register, byte| byte_by_bits(register, *byte))
 }
 
 // PKT-CHECK: the same check either way.
@@ -60,9 +55,9 @@ fn check_either_way(s: &[u8], at: usize, by_bits: bool) -> u64
     ensures { result ≡ check_at s.now at }
 {
     if by_bits {
-        check_by_bits(s, at) as u64
+        u64::from(check_by_bits(s, at))
     } else {
-        packet::check_at(s, at) as u64
+        u64::from(packet::check_at(s, at))
     }
 }
 
@@ -71,9 +66,7 @@ fn check_either_way(s: &[u8], at: usize, by_bits: bool) -> u64
 fn folded(digest: u64, check: u64) -> u64
     ensures { result ≡ fold_of digest check }
 {
-    let doubled = std::num::wrapping_add_u64(digest, digest);
-    let tripled = std::num::wrapping_add_u64(doubled, digest);
-    std::num::wrapping_add_u64(tripled, check)
+    digest.wrapping_mul(3).wrapping_add(check)
 }
 
 // PKT-CHECK: the checks of the headers that stand one behind another in any bytes, folded into one number.
@@ -83,12 +76,11 @@ pub extern "C" fn digest_of_checks(s: &[u8], by_bits: bool) -> u64
 {
     let headers = s.len() / packet::PACKET_HEADER_SIZE;
     let mut digest: u64 = 0;
-    let mut at: usize = 0;
-    let mut k: usize = 0;
-    while k < headers {
-        digest = folded(digest, check_either_way(s, at, by_bits));
-        at += packet::PACKET_HEADER_SIZE;
-        k += 1;
+    for k in 0..headers {
+        digest = folded(
+            digest,
+            check_either_way(s, k * packet::PACKET_HEADER_SIZE, by_bits),
+        );
     }
     digest
 }

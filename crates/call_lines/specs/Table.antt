@@ -2,7 +2,6 @@
 -- Assumes nothing.
 use Rattle.std.specs.Prelude.{ℕ, ◌+◌, ◌*◌, List, [], ◌∷◌, get_or}
 use Rattle.field.specs.Row.{width_of}
-use Rattle.connection_row.specs.Row.{row_size}
 use Rattle.lent_table.specs.LentTable.{records}
 use Rattle.call_lines.specs.Record.{most_record_text}
 use Rattle.call_lines.specs.Call.{most_answer_text}
@@ -16,10 +15,6 @@ table_widths = 1 ∷ 1 ∷ 1 ∷ 1 ∷ 4 ∷ 4 ∷ 4 ∷ 2 ∷ 2 ∷ []
 -- how many bytes these fields take
 abbrev pub table_fields_size : ℕ
 table_fields_size = width_of table_widths
-
--- where the bytes behind so many records start
-abbrev pub bytes_from : ℕ → ℕ
-bytes_from count = table_fields_size + count * row_size
 
 -- the call of these fields, in this order
 abbrev pub table_from : List ℕ → OneTable

@@ -2,21 +2,22 @@
 // A call in the file: owner 1 (1: the owner of 64 records, else the first records of an array are lent), count 1 (of the records), lent 1
 // (how many of them), kind 1 (as in a trace), slot 8, now 4, room 2 (the out buffer's length), size 2, the records
 // (connection_row/specs/Row), bytes.
-ghost use Rattle.std.specs.Prelude.{◌≡◌, ◌+◌, ◌*◌, ◌≤◌, length};
+ghost use Rattle.std.specs.Prelude.{◌≡◌, ◌+◌, ◌*◌, ◌≤◌, length, IfSome};
 ghost use Rattle.field.specs.Row.{fields_of};
 ghost use Rattle.lent_table.specs.LentTable.{records};
 ghost use Rattle.call_lines.specs.Record.{most_record_text};
 ghost use Rattle.call_lines.specs.Call.{CallFits};
-ghost use Rattle.call_lines.specs.Table.{table_widths, table_fields_size, bytes_from, table_from, most_table_text};
+ghost use Rattle.call_lines.specs.Table.{table_widths, table_fields_size, table_from, most_table_text};
 
 use crate::one_call::{MOST_BYTES, MOST_ROOM};
 use crate::{one_call, one_record};
+use arrayvec::ArrayVec;
+use calls::Answer;
 use clock::Count;
 use connection::Connection;
 use connection_row::ROW_SIZE;
-use lent_table::{RECORDS, Returned};
-use table::{Held, MOST_RECORDS};
-use text::Done;
+use lent_table::RECORDS;
+use table::MOST_RECORDS;
 
 // The bytes of the fields before the records.
 const FIELDS_SIZE: usize = 20;
@@ -28,6 +29,7 @@ const OWNER: u8 = 1;
 const HIGH: usize = 4294967296;
 
 // The fields of a call in the file.
+// Stays: the kind as it stands in the file, any byte, for `trace::call_of`.
 #[derive(Clone, Copy)]
 struct OneTable {
     owner: u8,
@@ -47,15 +49,15 @@ fn table_from(s: &[u8]) -> OneTable
     ensures { result ≡ table_from (fields_of table_widths s.now 0) }
 {
     OneTable {
-        owner: field::read8(s, 0),
-        count: field::read8(s, 1),
-        lent: field::read8(s, 2),
-        kind: field::read8(s, 3),
-        slot_high: field::read32(s, 4),
-        slot_low: field::read32(s, 8),
-        now: Count(field::read32(s, 12)),
-        room: field::read16(s, 16),
-        size: field::read16(s, 18),
+        owner: field::number_at(s, 0),
+        count: field::number_at(s, 1),
+        lent: field::number_at(s, 2),
+        kind: field::number_at(s, 3),
+        slot_high: field::number_at(s, 4),
+        slot_low: field::number_at(s, 8),
+        now: Count(field::number_at(s, 12)),
+        room: field::number_at(s, 16),
+        size: field::number_at(s, 18),
     }
 }
 
@@ -68,149 +70,87 @@ impl OneTable {
     fn lent_records(self) -> usize
         ensures { result ≤ records }
     {
-        let lent = self.lent as usize;
-        if RECORDS < lent {
-            return RECORDS;
-        }
-        lent
+        usize::from(self.lent).min(RECORDS)
     }
 }
 
-// The records behind the fields; those behind them are closed.
-fn records_of(s: &[u8], count: usize) -> [Connection; RECORDS]
-    requires { (count ≤ records) × (bytes_from count ≤ length s.now) }
-{
+// The records of these rows; those behind them are closed.
+fn records_of(rows: &[u8]) -> [Connection; RECORDS] {
     let mut t = [Connection::all_zero(); RECORDS];
-    let mut i: usize = 0;
-    while i < count {
-        let at = FIELDS_SIZE + i * ROW_SIZE;
-        t[i] = connection_row::connection_from(s, at);
-        i += 1;
+    for (c, row) in t.iter_mut().zip(rows.chunks_exact(ROW_SIZE)) {
+        *c = connection_row::connection_from(row, 0);
     }
     t
 }
 
-// The first records of an array, which an owner has.
-fn owned_of(t: [Connection; RECORDS]) -> [Connection; MOST_RECORDS] {
-    let mut owned = [Connection::all_zero(); MOST_RECORDS];
-    let mut i: usize = 0;
-    while i < MOST_RECORDS {
-        owned[i] = t[i];
-        i += 1;
-    }
-    owned
-}
-
-// What an owner returns, with the record behind its own.
-fn returned_of(held: Held, t: [Connection; RECORDS]) -> Returned {
-    let answer = held.answer;
-    let owned = held.table;
-    let mut table = t;
-    let mut i: usize = 0;
-    while i < MOST_RECORDS {
-        table[i] = owned[i];
-        i += 1;
-    }
-    Returned { answer, table }
-}
-
-// Makes the call on these records, with so much of the lent buffer to write to.
+// Makes the call, for an owner of the first records or on those that are lent.
 fn make_call(
     given: OneTable,
-    t: [Connection; RECORDS],
+    t: &mut [Connection; RECORDS],
     bytes: &[u8],
-    lent: &mut [u8],
-    room: usize,
-) -> Returned
-    requires { room ≤ length lent.old }
-{
+    out: &mut [u8],
+) -> Answer {
     let call = trace::call_of(given.kind, bytes);
     let slot = given.slot();
-    let now = given.now;
     if given.owner == OWNER {
-        let held = table::make_in(owned_of(t), slot, call, now, bytes, &mut lent[0..room]);
-        return returned_of(held, t);
+        let mut owned = [Connection::all_zero(); MOST_RECORDS];
+        owned.copy_from_slice(&t[..MOST_RECORDS]);
+        let held = table::make_in(owned, slot, call, given.now, bytes, out);
+        t[..MOST_RECORDS].copy_from_slice(&held.table);
+        held.answer
+    } else {
+        lent_table::make(t, given.lent_records(), slot, call, given.now, bytes, out)
     }
-    let size = given.lent_records();
-    lent_table::make(t, size, slot, call, now, bytes, &mut lent[0..room])
 }
 
-// The first records of an array.
-fn put_records(out: &mut [u8], at: usize, t: [Connection; RECORDS], count: usize) -> usize
-    requires { (count ≤ records) × (at + count * most_record_text ≤ length out.old) }
-    ensures { result ≤ at + count * most_record_text }
+// The records, one after the other.
+fn put_records<const N: usize>(out: &mut ArrayVec<u8, N>, table: &[Connection])
+    requires { length out.old.items + length table.now * most_record_text ≤ N }
+    ensures { length out.new.items ≤ length out.old.items + length table.now * most_record_text }
 {
-    let mut next = at;
-    let mut i: usize = 0;
-    while i < count {
-        let c = t[i];
-        next = one_record::put_record(out, next, c);
-        i += 1;
+    for c in table {
+        one_record::put_record(out, *c);
     }
-    next
 }
 
 // The line of a call.
-fn put_line(out: &mut [u8], made: Returned, count: usize, bytes: &[u8], lent: &[u8]) -> usize
-    requires call_fits { CallFits bytes.now lent.now × (count ≤ records) }
-    requires most_table_text_in_bounds { most_table_text ≤ length out.old }
-    ensures { result ≤ most_table_text }
-{
-    let answer = made.answer;
-    let t = made.table;
-    let after_answer = one_call::put_answer(out, answer, bytes, lent);
-    let after_records = put_records(out, after_answer, t, count);
-    text::put(out, after_records, b"\n")
-}
-
-// The call, and its line.
-fn put_call(
-    out: &mut [u8],
-    given: OneTable,
-    t: [Connection; RECORDS],
-    count: usize,
+fn put_line<const N: usize>(
+    out: &mut ArrayVec<u8, N>,
+    answer: Answer,
+    table: &[Connection],
     bytes: &[u8],
-    lent: &mut [u8],
-    room: usize,
-) -> usize
-    requires room_in_bounds { (room ≤ length lent.old) × CallFits bytes.now lent.old × (count ≤ records) }
-    requires most_table_text_in_bounds { most_table_text ≤ length out.old }
-    ensures { result ≤ most_table_text }
+    lent: &[u8],
+)
+    requires call_fits { CallFits bytes.now lent.now × (length table.now ≤ records) }
+    requires most_table_text_in_bounds { length out.old.items + most_table_text ≤ N }
+    ensures { length out.new.items ≤ length out.old.items + most_table_text }
 {
-    let made = make_call(given, t, bytes, lent, room);
-    put_line(out, made, count, bytes, lent)
+    one_call::put_answer(out, answer, bytes, lent);
+    put_records(out, table);
+    text::put(out, b"\n");
 }
 
-// The call at the front of s, if it is there whole.
-pub fn table_at(s: &[u8], out: &mut [u8]) -> Done
-    requires { most_table_text ≤ length out.old }
-    ensures { (result.next ≤ most_table_text) × (result.used ≤ length s.now) }
+// The call at the front of s, if it is there whole, and how many bytes it takes.
+pub fn table_at<const N: usize>(s: &[u8], out: &mut ArrayVec<u8, N>) -> Option<usize>
+    requires { length out.old.items + most_table_text ≤ N }
+    ensures text { length out.new.items ≤ length out.old.items + most_table_text }
+    ensures used { IfSome result (λ used. used ≤ length s.now) }
 {
-    if s.len() < FIELDS_SIZE {
-        return Done::not_whole();
-    }
-    let given = table_from(s);
-    let count = given.count as usize;
-    let room = given.room as usize;
-    let size = given.size as usize;
+    let (fields, rest) = s.split_at_checked(FIELDS_SIZE)?;
+    let given = table_from(fields);
+    let count = usize::from(given.count);
     if RECORDS < count {
-        return Done::not_whole();
+        return None;
     }
-    if MOST_BYTES < size {
-        return Done::not_whole();
+    let (rows, rest) = rest.split_at_checked(count * ROW_SIZE)?;
+    let bytes = rest.get(..usize::from(given.size))?;
+    let room = usize::from(given.room);
+    if MOST_BYTES < bytes.len() || MOST_ROOM < room {
+        return None;
     }
-    if MOST_ROOM < room {
-        return Done::not_whole();
-    }
-    let from = FIELDS_SIZE + count * ROW_SIZE;
-    let end = from + size;
-    if s.len() < end {
-        return Done::not_whole();
-    }
-    let t = records_of(s, count);
+    let mut table = records_of(rows);
     let mut lent = [text::BEFORE; MOST_ROOM];
-    Done {
-        next: put_call(out, given, t, count, &s[from..end], &mut lent, room),
-        used: end,
-    }
+    let answer = make_call(given, &mut table, bytes, &mut lent[..room]);
+    put_line(out, answer, &table[..count], bytes, &lent);
+    Some(FIELDS_SIZE + rows.len() + bytes.len())
 }

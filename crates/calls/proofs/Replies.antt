@@ -30,13 +30,12 @@ use Rattle.message.specs.Read.{later_stamp, check_over, parsed_of}
 use Rattle.message_writing.specs.Writing.{allowed_of, writes, message_written}
 use Rattle.message.specs.declared.Header.{Header}
 use Rattle.message.specs.declared.Tail.{Tail}
-use Rattle.message.specs.declared.Parsed.{Parsed}
+use Rattle.message.specs.declared.Message.{Message}
 use Rattle.connection.specs.declared.Connection.{Connection}
 use Rattle.connection.specs.Connection.{closed, opened, initiator_waits_for4, out_of_range}
 use Rattle.peer_faults.specs.declared.Expectation.{Expectation}
 use Rattle.peer_faults.specs.declared.Expectation.TheVariants.{Expected, Unexpected, Released}
-use Rattle.what_follows.specs.declared.Reply.{Reply}
-use Rattle.what_follows.specs.declared.Reply.TheVariants.{Nothing, Send}
+use Rattle.std.proofs.Common.{Option, Some, None}
 use Rattle.what_follows.specs.declared.Outcome.{Outcome}
 use Rattle.peer_faults.specs.Faults.{expectation_of, fault_number}
 use Rattle.what_follows.specs.Follows.{malformed_of, start_taken, answ1_taken, answ2_taken, est_taken, end_taken, data_taken, message_taken, refusing, raised, open_follows_of, follows_of, met_of, step_of}
@@ -129,10 +128,10 @@ module _ (room n : ℕ) (enough : est_size ≤ room) where
   met_whole c now h t Unexpected = refl
   met_whole c now h t Released = refl
 
-  step_whole : (c : Connection) (now : Count) (p : Parsed) → Whole room n (step_of c now p)
+  step_whole : (c : Connection) (now : Count) (p : Option Message) → Whole room n (step_of c now p)
   unfolding step_of malformed_of
-  step_whole c now Parsed.Malformed = both (Whole room n) (eqb c.phase opened) _ _ (λ _. refl) (λ _. refl)
-  step_whole c now (Parsed.Whole h t) = met_whole c now h t (expectation_of c.phase h.kind)
+  step_whole c now None = both (Whole room n) (eqb c.phase opened) _ _ (λ _. refl) (λ _. refl)
+  step_whole c now (Some m) = met_whole c now m.header m.tail (expectation_of c.phase m.header.kind)
 
 -- ---- where nothing is refused, no row of the refusals applies
 
@@ -209,7 +208,7 @@ begin_whole c g now room n =
         simp (le-leb start_size room (ltb-false room start_size (and_off (eqb g.role initiator) (ltb room start_size) i f.0)))
 
 abbrev Silent : Outcome → Type 0
-Silent o = o.reply ≡ Nothing
+Silent o = o.reply ≡ None
 
 pub tick_silent : (c : Connection) (now : Count) → Silent (tick_outcome c now)
 unfolding tick_outcome
@@ -237,9 +236,9 @@ call_whole Call.Close c now lent room = silent_whole room (length lent) (close_o
 
 -- ---- the writer
 
-pub put_is : (reply : Reply) (h : Header) (t : Tail) (lent out : List ℕ) → reply ≡ Send h t → writable reply (length out) (length lent) ≡ true
-    → message_written (length out) h t lent ≡ reply_bytes reply lent
+pub put_is : (reply : Option Message) (m : Message) (lent out : List ℕ) → reply ≡ Some m → writable reply (length out) (length lent) ≡ true
+    → message_written (length out) m.header m.tail lent ≡ reply_bytes reply lent
 unfolding message_written
-put_is reply h t lent out e w =
-    let v : writes (length out) h t (length lent) ≡ true = rw e at w in
+put_is reply m lent out e w =
+    let v : writes (length out) m.header m.tail (length lent) ≡ true = rw e at w in
     rw e (simp v)

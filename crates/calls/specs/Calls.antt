@@ -1,5 +1,5 @@
 -- The five calls on one record: the caller's faults in their order, the wait that expires, and every byte of the out buffer.
-use Rattle.std.specs.Prelude.{ℕ, ◌+◌, Bool, true, false, not, ◌&&◌, ◌||◌, List, [], ◌∷◌, ◌++◌, ltb, leb, eqb, length, take}
+use Rattle.std.specs.Prelude.{ℕ, ◌+◌, Bool, true, false, not, ◌&&◌, ◌||◌, List, [], ◌∷◌, ◌++◌, ltb, leb, eqb, length, take, Option, Some, None, ⊤, Result, Ok, Err}
 use Rattle.std.proofs.lemmas.List.Edits.{sets}
 use Rattle.rules.specs.Rows.{when◌answer◌else◌}
 use Rattle.clock.specs.Clock.{goes_back, wait_of, no_age}
@@ -10,7 +10,7 @@ use Rattle.message.specs.Layout.{period_tail, data_tail}
 use Rattle.message.specs.Read.{parsed_of, data_of}
 use Rattle.message_writing.specs.Writing.{message_bytes, writes}
 use Rattle.message.specs.declared.Header.{Header}
-use Rattle.message.specs.declared.Parsed.{Parsed}
+use Rattle.message.specs.declared.Message.{Message}
 use Rattle.connection.specs.declared.Settings.{Settings}
 use Rattle.connection.specs.declared.Connection.{Connection}
 use Rattle.connection.specs.Connection.{
@@ -26,14 +26,32 @@ use Rattle.connection.specs.Connection.{
   waiting,
   begun,
 }
-use Rattle.what_follows.specs.declared.Reply.{Reply}
-use Rattle.what_follows.specs.declared.Reply.TheVariants.{Nothing, Send}
 use Rattle.what_follows.specs.declared.Outcome.{Outcome}
 use Rattle.what_follows.specs.Follows.{kept, released, sending, step_of}
 use Rattle.calls.specs.declared.Given.{Given}
 use Rattle.calls.specs.declared.Call.{Call}
+use Rattle.calls.specs.declared.CallersFault.{CallersFault}
+use Rattle.calls.specs.declared.CallersFault.TheVariants.{BadRecord, Closed, InUse, OutOfRange, ClockWentBack, NotOpen, DataTooLong, BufferTooShort}
 use Rattle.calls.specs.declared.Answer.{Answer}
 use Rattle.calls.specs.declared.Called.{Called}
+
+-- ---- the caller's faults, and their numbers
+
+-- CALL-101 to CALL-108: the number of each
+abbrev pub refusal_number : CallersFault → ℕ
+refusal_number BadRecord = 101
+refusal_number Closed = 102
+refusal_number InUse = 103
+refusal_number OutOfRange = 104
+refusal_number ClockWentBack = 105
+refusal_number NotOpen = 106
+refusal_number DataTooLong = 107
+refusal_number BufferTooShort = 108
+
+-- CALL-ORDER: the number of the first that was found, 0 where there is none
+abbrev pub first_number : Result ⊤ CallersFault → ℕ
+first_number (Ok nothing) = 0
+first_number (Err fault) = refusal_number fault
 
 -- ---- the caller's faults of each call, in CALL-ORDER: the number of the first, 0 where there is none
 
@@ -184,13 +202,13 @@ peers_faults = 207 ∷ 201 ∷ 211 ∷ 202 ∷ 203 ∷ 208 ∷ 209 ∷ 206 ∷ 2
 -- judges, of the bytes lent; whether it begins a connection; and the numbers that it answers.
 pub record Rule : Type 0 where
   pub outcome : Connection → Count → List ℕ → ℕ → Outcome
-  pub message : List ℕ → Parsed
+  pub message : List ℕ → Option Message
   pub begins : Bool
   pub numbers : List ℕ
 
 -- no message is judged
-abbrev pub no_message : List ℕ → Parsed
-no_message lent = Parsed.Malformed
+abbrev pub no_message : List ℕ → Option Message
+no_message lent = None
 
 -- the calls, a row each; CALL-0: a 0 beside the faults
 abbrev pub rule_of : Call → Rule
@@ -241,9 +259,9 @@ given role settings first period = record { role = role; settings = settings; ow
 -- ---- what a call answers, and the out buffer
 
 -- the bytes of what is sent; of the bytes lent to the call only a message with data has any (MSG-DATA)
-abbrev pub reply_bytes : Reply → List ℕ → List ℕ
-reply_bytes Nothing lent = []
-reply_bytes (Send h t) lent = message_bytes h t lent
+abbrev pub reply_bytes : Option Message → List ℕ → List ℕ
+reply_bytes None lent = []
+reply_bytes (Some m) lent = message_bytes m.header m.tail lent
 
 -- every answer is made here, of its parts in their order
 abbrev pub says : ℕ → Bool → ℕ → ℕ → Age → Answer
@@ -275,9 +293,9 @@ abbrev pub made : Call → Connection → Count → List ℕ → List ℕ → Le
 made call c now lent out = left_by (outcome_of call c now lent (length out)) lent out
 
 -- there is something to write, and the writer takes it
-abbrev pub writable : Reply → ℕ → ℕ → Bool
-writable Nothing room n = true
-writable (Send h t) room n = writes room h t n
+abbrev pub writable : Option Message → ℕ → ℕ → Bool
+writable None room n = true
+writable (Some m) room n = writes room m.header m.tail n
 
 -- what a receive delivers: a part of the message, from byte 15 on (MSG-DATA); empty where that is nothing (CALL-EMPTY, CALL-TYPE6)
 unfoldable pub delivered_of : List ℕ → ℕ → List ℕ

@@ -7,6 +7,8 @@ ghost use Rattle.message.specs.Read.{data_place};
 ghost use Rattle.connection.specs.Connection.{no_count};
 ghost use Rattle.calls.specs.declared.Call.{Call};
 ghost use Rattle.calls.specs.Calls.{
+  refusal_number,
+  first_number,
   close_refusal,
   tick_refusal,
   receive_refusal,
@@ -39,9 +41,9 @@ use connection::{
     CLOSED, Connection, INITIATOR_WAITS_FOR_2, OPENED, Own, RESPONDER_WAITS_FOR_1, Settings,
 };
 use message::{
-    APPLICATION, EST_SIZE, HEADER_SIZE, Header, MOST_DATA, OFFSET_START, START_SIZE, Tail,
+    APPLICATION, EST_SIZE, HEADER_SIZE, Header, MOST_DATA, Message, OFFSET_START, START_SIZE, Tail,
 };
-use what_follows::{Outcome, Reply};
+use what_follows::Outcome;
 
 // The roles, by their numbers: CALL-104.
 pub const INITIATOR: u8 = 0;
@@ -49,6 +51,7 @@ pub const INITIATOR: u8 = 0;
 pub const RESPONDER: u8 = 1;
 
 // What begin is given for the whole of the connection: the role, the settings, the first number and the period.
+// Stays: the role as the number that the caller gives, any byte: 104 says which is none (`begin_refusal`).
 #[derive(Clone, Copy)]
 pub struct Given {
     pub role: u8,
@@ -87,123 +90,136 @@ pub struct Called {
     pub next: Connection,
 }
 
+// CALL-101 to CALL-108: why a call is refused.
+#[derive(Clone, Copy, Debug, PartialEq, Eq)]
+enum CallersFault {
+    BadRecord,
+    Closed,
+    InUse,
+    OutOfRange,
+    ClockWentBack,
+    NotOpen,
+    DataTooLong,
+    BufferTooShort,
+}
+
+impl CallersFault {
+    fn number(self) -> u16
+        ensures { result ≡ refusal_number self }
+    {
+        match self {
+            CallersFault::BadRecord => 101,
+            CallersFault::Closed => 102,
+            CallersFault::InUse => 103,
+            CallersFault::OutOfRange => 104,
+            CallersFault::ClockWentBack => 105,
+            CallersFault::NotOpen => 106,
+            CallersFault::DataTooLong => 107,
+            CallersFault::BufferTooShort => 108,
+        }
+    }
+}
+
 // CALL-CLOSE.
-fn close_refusal(c: Connection) -> u16
-    ensures { result ≡ close_refusal c }
+#[tactic(auto, unfolding(crate::specs::Calls::bad, crate::specs::Calls::close_refusal))]
+fn close_refusal(c: Connection) -> Result<(), CallersFault>
+    ensures { first_number result ≡ close_refusal c }
 {
     if c.phase == CLOSED {
-        return 102;
+        return Err(CallersFault::Closed);
     }
     if c.unsound() {
-        return 101;
+        return Err(CallersFault::BadRecord);
     }
-    0
+    Ok(())
 }
 
 // CALL-TICK.
-fn tick_refusal(c: Connection, now: Count) -> u16
-    ensures { result ≡ tick_refusal c now }
+#[tactic(auto, unfolding(crate::specs::Calls::tick_refusal))]
+fn tick_refusal(c: Connection, now: Count) -> Result<(), CallersFault>
+    ensures { first_number result ≡ tick_refusal c now }
 {
-    let k = close_refusal(c);
-    if k == 0 {
-        let last = c.clock;
-        if now.goes_back(last) {
-            return 105;
-        }
-        return 0;
+    close_refusal(c)?;
+    if now.goes_back(c.clock) {
+        return Err(CallersFault::ClockWentBack);
     }
-    k
+    Ok(())
 }
 
 // CALL-RECEIVE.
-fn receive_refusal(c: Connection, now: Count, room: usize) -> u16
-    ensures { result ≡ receive_refusal c now room }
+#[tactic(auto, unfolding(crate::specs::Calls::receive_refusal))]
+fn receive_refusal(c: Connection, now: Count, room: usize) -> Result<(), CallersFault>
+    ensures { first_number result ≡ receive_refusal c now room }
 {
-    let k = tick_refusal(c, now);
-    if k == 0 {
-        if room < EST_SIZE {
-            return 108;
-        }
-        return 0;
+    tick_refusal(c, now)?;
+    if room < EST_SIZE {
+        return Err(CallersFault::BufferTooShort);
     }
-    k
+    Ok(())
 }
 
 // CALL-SEND.
-fn send_refusal(c: Connection, now: Count, size: usize, room: usize) -> u16
-    ensures { result ≡ send_refusal c now size room }
+#[tactic(auto, unfolding(crate::specs::Calls::send_refusal))]
+fn send_refusal(c: Connection, now: Count, size: usize, room: usize) -> Result<(), CallersFault>
+    ensures { first_number result ≡ send_refusal c now size room }
 {
-    let k = tick_refusal(c, now);
-    if k == 0 {
-        if c.phase != OPENED {
-            return 106;
-        }
-        if MOST_DATA < size {
-            return 107;
-        }
-        if room < HEADER_SIZE + size {
-            return 108;
-        }
-        return 0;
+    tick_refusal(c, now)?;
+    if c.phase != OPENED {
+        return Err(CallersFault::NotOpen);
     }
-    k
+    if MOST_DATA < size {
+        return Err(CallersFault::DataTooLong);
+    }
+    if room < HEADER_SIZE + size {
+        return Err(CallersFault::BufferTooShort);
+    }
+    Ok(())
 }
 
 // CALL-BEGIN.
-fn begin_refusal(c: Connection, g: Given, room: usize) -> u16
-    ensures { result ≡ begin_refusal c g room }
+#[tactic(auto, unfolding(crate::specs::Calls::bad, crate::specs::Calls::begin_refusal))]
+fn begin_refusal(c: Connection, g: Given, room: usize) -> Result<(), CallersFault>
+    ensures { first_number result ≡ begin_refusal c g room }
 {
+    if c.phase != CLOSED && c.unsound() {
+        return Err(CallersFault::BadRecord);
+    }
     if c.phase != CLOSED {
-        if c.unsound() {
-            return 101;
-        }
-        return 103;
+        return Err(CallersFault::InUse);
     }
-    if RESPONDER < g.role {
-        return 104;
+    if RESPONDER < g.role || g.settings.out_of_range() {
+        return Err(CallersFault::OutOfRange);
     }
-    let settings = g.settings;
-    if settings.out_of_range() {
-        return 104;
+    if g.role == INITIATOR && room < START_SIZE {
+        return Err(CallersFault::BufferTooShort);
     }
-    if g.role == INITIATOR {
-        if room < START_SIZE {
-            return 108;
-        }
-        return 0;
-    }
-    0
+    Ok(())
 }
 
 // CALL-KEPT: nothing changes.
-fn refused(number: u16, c: Connection) -> Outcome
-    ensures { result ≡ refused number c }
+fn refused(fault: CallersFault, c: Connection) -> Outcome
+    ensures { result ≡ refused (refusal_number fault) c }
 {
-    what_follows::kept(number, 0, c)
+    what_follows::kept(fault.number(), 0, c)
 }
 
 // WAIT-1, WAIT-2: whether a wait begun by a send is over.
+#[tactic(auto, unfolding(crate::specs::Calls::timed, crate::specs::Calls::expired))]
 fn expired(c: Connection, now: Count) -> bool
     ensures { result ≡ expired c now }
 {
-    if c.phase == RESPONDER_WAITS_FOR_1 {
-        return false;
-    }
-    if c.phase == OPENED {
-        return false;
-    }
-    let settings = c.settings;
-    let since = c.wait_start;
-    settings.t_start <= now.wait_of(since)
+    c.phase != RESPONDER_WAITS_FOR_1
+        && c.phase != OPENED
+        && c.settings.t_start <= now.wait_of(c.wait_start)
 }
 
 // WAIT-4, PEER-ORDER.
+#[tactic(auto, unfolding(crate::specs::Calls::receive_outcome))]
 fn receive_outcome(c: Connection, now: Count, message: &[u8], room: usize) -> Outcome
     ensures { result ≡ receive_outcome c now message.now room }
 {
-    let k = receive_refusal(c, now, room);
-    if k != 0 {
-        return refused(k, c);
+    if let Err(fault) = receive_refusal(c, now, room) {
+        return refused(fault, c);
     }
     if expired(c, now) {
         return what_follows::released(207, 0);
@@ -212,12 +228,12 @@ fn receive_outcome(c: Connection, now: Count, message: &[u8], room: usize) -> Ou
 }
 
 // WAIT-4.
+#[tactic(auto, unfolding(crate::specs::Calls::tick_outcome))]
 fn tick_outcome(c: Connection, now: Count) -> Outcome
     ensures { result ≡ tick_outcome c now }
 {
-    let k = tick_refusal(c, now);
-    if k != 0 {
-        return refused(k, c);
+    if let Err(fault) = tick_refusal(c, now) {
+        return refused(fault, c);
     }
     if expired(c, now) {
         return what_follows::released(207, 0);
@@ -226,12 +242,12 @@ fn tick_outcome(c: Connection, now: Count) -> Outcome
 }
 
 // CALL-CLOSE.
+#[tactic(auto, unfolding(crate::specs::Calls::close_outcome))]
 fn close_outcome(c: Connection) -> Outcome
     ensures { result ≡ close_outcome c }
 {
-    let k = close_refusal(c);
-    if k != 0 {
-        return refused(k, c);
+    if let Err(fault) = close_refusal(c) {
+        return refused(fault, c);
     }
     what_follows::released(0, 0)
 }
@@ -240,25 +256,23 @@ fn close_outcome(c: Connection) -> Outcome
 fn data_header(c: Connection, now: Count) -> Header
     ensures { result ≡ data_header c now }
 {
-    let stamp = c.peer.stamp;
-    let arrival = c.peer.arrival;
     Header {
         kind: APPLICATION,
         number: c.own.number,
         stamp: now,
-        last_peer_stamp: stamp,
-        arrival,
+        last_peer_stamp: c.peer.stamp,
+        arrival: c.peer.arrival,
     }
 }
 
 // NUMBER-1.
+#[tactic(auto, unfolding(crate::specs::Calls::send_outcome))]
 fn send_outcome(c: Connection, now: Count, size: usize, room: usize) -> Outcome
     requires { size < 2 ^ 63 }
     ensures { result ≡ send_outcome c now size room }
 {
-    let k = send_refusal(c, now, size, room);
-    if k != 0 {
-        return refused(k, c);
+    if let Err(fault) = send_refusal(c, now, size, room) {
+        return refused(fault, c);
     }
     what_follows::sending(
         data_header(c, now),
@@ -284,34 +298,30 @@ fn start_header(first: u16, now: Count) -> Header
 fn start_sent(g: Given, now: Count) -> Outcome
     ensures { result ≡ start_sent g now }
 {
-    let settings = g.settings;
-    let own = g.own;
     what_follows::sending(
-        start_header(own.number, now),
-        message::period_tail(own.period),
-        Connection::begun(settings, own, INITIATOR_WAITS_FOR_2, now)
+        start_header(g.own.number, now),
+        message::period_tail(g.own.period),
+        Connection::begun(g.settings, g.own, INITIATOR_WAITS_FOR_2, now)
             .sent()
             .waiting(INITIATOR_WAITS_FOR_2, now),
     )
 }
 
 // SETUP-0, SETUP-1.
+#[tactic(auto, unfolding(crate::specs::Calls::begin_outcome))]
 fn begin_outcome(c: Connection, g: Given, now: Count, room: usize) -> Outcome
     ensures { result ≡ begin_outcome c g now room }
 {
-    let k = begin_refusal(c, g, room);
-    if k != 0 {
-        return refused(k, c);
+    if let Err(fault) = begin_refusal(c, g, room) {
+        return refused(fault, c);
     }
     if g.role == INITIATOR {
         return start_sent(g, now);
     }
-    let settings = g.settings;
-    let own = g.own;
     what_follows::kept(
         0,
         0,
-        Connection::begun(settings, own, RESPONDER_WAITS_FOR_1, now),
+        Connection::begun(g.settings, g.own, RESPONDER_WAITS_FOR_1, now),
     )
 }
 
@@ -329,14 +339,14 @@ fn outcome_of(c: Connection, call: Call, now: Count, lent: &[u8], room: usize) -
 }
 
 // CALL-OUT: writes what is sent at the start of out, and answers how many bytes.
-fn put(reply: Reply, lent: &[u8], out: &mut [u8]) -> usize
+fn put(reply: Option<Message>, lent: &[u8], out: &mut [u8]) -> usize
     requires { writable reply (length out.old) (length lent.now) ≡ true }
     ensures { (result ≡ length (reply_bytes reply lent.now))
         × (out.new ≡ sets out.old 0 (reply_bytes reply lent.now)) }
 {
     match reply {
-        Reply::Nothing => 0,
-        Reply::Send(h, t) => message_writing::write(out, h, t, lent),
+        None => 0,
+        Some(message) => message_writing::write(out, message, lent),
     }
 }
 
@@ -364,11 +374,9 @@ pub fn refusal(number: u16) -> Answer
 fn called_with(o: Outcome, written: usize) -> Called
     ensures { result ≡ called_with o written }
 {
-    let age = o.age;
-    let next = o.next;
     Called {
-        answer: says(o.number, o.released, written, o.delivered, age),
-        next,
+        answer: says(o.number, o.released, written, o.delivered, o.age),
+        next: o.next,
     }
 }
 
@@ -377,8 +385,7 @@ pub fn make(c: Connection, call: Call, now: Count, lent: &[u8], out: &mut [u8]) 
     ensures { leaves result out.new ≡ made call c now lent.now out.old }
 {
     let o = outcome_of(c, call, now, lent, out.len());
-    let reply = o.reply;
-    let written = put(reply, lent, out);
+    let written = put(o.reply, lent, out);
     called_with(o, written)
 }
 
@@ -394,16 +401,15 @@ pub fn begin(
 ) -> Called
     ensures { leaves result out.new ≡ made (Call.Begin (given role settings first period)) c now [] out.old }
 {
-    let own = Own {
-        number: first,
-        period,
-    };
-    let g = Given {
+    let given = Given {
         role,
         settings,
-        own,
+        own: Own {
+            number: first,
+            period,
+        },
     };
-    make(c, Call::Begin(g), now, b"", out)
+    make(c, Call::Begin(given), now, b"", out)
 }
 
 // CALL-RECEIVE.
@@ -424,23 +430,21 @@ pub fn send(c: Connection, now: Count, data: &[u8], out: &mut [u8]) -> Called
 pub fn tick(c: Connection, now: Count) -> Called
     ensures { leaves result [] ≡ made Call.Tick c now [] [] }
 {
-    called_with(tick_outcome(c, now), 0)
+    make(c, Call::Tick, now, b"", &mut [])
 }
 
 // CALL-CLOSE: it is lent nothing, and has no now.
 pub fn close(c: Connection) -> Called
     ensures { leaves result [] ≡ made Call.Close c no_count [] [] }
 {
-    called_with(close_outcome(c), 0)
+    make(c, Call::Close, Count(0), b"", &mut [])
 }
 
 // CALL-EMPTY, MSG-DATA: what a receive delivers, as a part of the message.
+#[tactic(auto, unfolding(crate::specs::Calls::delivered_of))]
 pub fn delivered(message: &[u8], n: usize) -> &[u8]
     ensures { (result.now ≡ delivered_of message.now n) × (result.ref_ptr ≡ data_place message.entry) }
 {
     let data = message::data_of(message);
-    if data.len() < n {
-        return data;
-    }
-    &data[0..n]
+    &data[..n.min(data.len())]
 }

@@ -10,13 +10,13 @@ use Rattle.field.specs.Row.{Bytes}
 use Rattle.connection.specs.declared.Connection.{Connection}
 use Rattle.trace.specs.Record.{size_of, record_bytes, record_of}
 use Rattle.trace.specs.Call.{made_on}
+use Rattle.trace.specs.declared.Record.{Record}
 use Rattle.trace.specs.declared.Next.{Next}
 use Rattle.trace.specs.declared.Next.TheVariants as stands
 use Rattle.trace.proofs.Records.{none_ends}
 use Rattle.replay_lines.specs.Replay.{any_out}
 use Rattle.recorded_answer.specs.Answer.{behind_of}
-use Rattle.recorded_answer.specs.declared.Behind.{Behind}
-use Rattle.recorded_answer.specs.declared.Behind.TheVariants.{NoAnswer, Recorded}
+use Rattle.std.specs.Prelude.{Option, Some, None}
 use Rattle.recorder_file.specs.Said.{difference_told, bad_told}
 use Rattle.recorder_file.specs.Check.{Checked, start_of, nth, difference, checked_from, checked_of}
 use Rattle.recorder_file.specs.declared.Passed.{Passed}
@@ -104,9 +104,9 @@ clear_last [] rest b none = tt
 clear_last (answered call bytes recorded ∷ []) rest b none = tt
 clear_last (alone call bytes ∷ []) rest b none = by (behind_of call rest) refl
   where
-    by : (k : Behind) → behind_of call rest ≡ k → behind_of call rest ≡ NoAnswer
-    by NoAnswer e = e
-    by (Recorded a) e =
+    by : (k : Option Record) → behind_of call rest ≡ k → behind_of call rest ≡ None
+    by None e = e
+    by (Some a) e =
         absurd (none (record_bytes rest a) (drop (size_of a) rest) (answer_stands call rest b a e) (answer_written call rest b a e))
 clear_last (e ∷ f ∷ es) rest b none = clear_last (f ∷ es) rest b none
 

@@ -2,10 +2,11 @@
 -- Assumes nothing.
 use Prim.Native.Nat.{ℕ, ◌≤◌}
 use mathlib.Core.Path.{◌≡◌, refl, sym, ap, subst, ◌∙◌}
-use mathlib.Core.Bool.{Bool, true, false, ◌||◌, false≢true}
+use mathlib.Core.Bool.{Bool, true, false, ◌||◌, not}
 use mathlib.Core.List.{List, [], ◌++◌, append_assoc}
 use native.Mathlib.Omega.{arith}
-use borrow.Author.Tests.{le-ltb, eqb-true, ltb-false, not-false}
+use borrow.Author.Tests.{le-ltb, eq-eqb, eqb-true, ltb-false, not-false}
+use Rattle.std.proofs.lemmas.Bool.{or_parts}
 use lib.Dec.{eqb, ltb}
 use lib.ListN.{length, take, drop, length-append, length-drop, take-append-drop}
 use lib.Seq.{take_at, drop_at, drop-drop, length-take-le}
@@ -35,9 +36,8 @@ use Rattle.trace.specs.declared.Record.{Record}
 use Rattle.trace.specs.declared.Next.TheVariants as stands
 use Rattle.trace.proofs.Records.{is_whole, whole_fits}
 use Rattle.recorded_answer.specs.Answer.{answer_kind, answers_to, behind_of}
-use Rattle.recorded_answer.specs.declared.Behind.TheVariants.{NoAnswer, Recorded}
+use Rattle.std.specs.Prelude.{Some, None}
 use Rattle.recorded_answer.proofs.Answers.{parts_answer, answers_parts, not_answered, cut_behind, is_behind, behind_is}
-use Rattle.recorder_file.proofs.Reasons.{mark_right}
 use Rattle.checker_promises.specs.File.{fields_in, whole_record, answer_record, CallStands, AnswerStands}
 
 -- the fields of a record, each in its width
@@ -70,6 +70,11 @@ module _ (r : Record) (bytes rest : List ℕ) (fits : Fits r) where
 
     long_enough : size_of r ≤ length (whole_record r bytes ++ rest)
     long_enough = omega (arith, whole_size, length-append (whole_record r bytes) rest)
+
+-- the right mark
+mark_right : (r : Record) → r.mark ≡ mark → wrong_mark r ≡ false
+unfolding wrong_mark
+mark_right r h = ap not (eq-eqb r.mark mark h)
 
 -- a call's record has its fields in their widths, and is not bad
 call_fits : (r : Record) (bytes : List ℕ) → CallStands r bytes → Fits r
@@ -112,10 +117,10 @@ module _ (r : Record) (bytes rest : List ℕ) (s : CallStands r bytes) where
   call_rest = rest_back r bytes rest (call_fits r bytes s) s.size
 
   -- a call is no answer
-  pub call_no_answer : (before : Record) → behind_of before l ≡ NoAnswer
+  pub call_no_answer : (before : Record) → behind_of before l ≡ None
   call_no_answer before = by (answers_to before (fields_at l)) refl
     where
-      by : (b : Bool) → answers_to before (fields_at l) ≡ b → behind_of before l ≡ NoAnswer
+      by : (b : Bool) → answers_to before (fields_at l) ≡ b → behind_of before l ≡ None
       by false e = not_answered before l e
       by true e =
           let kind = (answers_parts before (fields_at l) e).kind in
@@ -124,7 +129,7 @@ module _ (r : Record) (bytes rest : List ℕ) (s : CallStands r bytes) where
           absurd f
 
 -- nor are no bytes
-pub none_no_answer : (before : Record) → behind_of before [] ≡ NoAnswer
+pub none_no_answer : (before : Record) → behind_of before [] ≡ None
 none_no_answer before = cut_behind before [] (omega arith)
 
 module _ (call : Record) (bytes recorded rest : List ℕ) (c : CallStands call bytes) (s : AnswerStands recorded) where
@@ -137,14 +142,14 @@ module _ (call : Record) (bytes recorded rest : List ℕ) (c : CallStands call b
   abbrev m : List ℕ
   m = whole_record a recorded ++ rest
 
-  pub answer_behind : behind_of call m ≡ Recorded a
+  pub answer_behind : behind_of call m ≡ Some a
   answer_behind =
       let same = fields_back a recorded rest answer_fits in
       is_behind call m
       (ap (answers_to call) same
       ∙ parts_answer call a (record { mark = mark_right a refl; kind = refl; slot = refl; now = refl; least = s.least; most = s.most }))
       (subst (λ (x : Record). size_of x ≤ length m) (sym same) (long_enough a recorded rest answer_fits refl))
-      ∙ ap Recorded same
+      ∙ ap Some same
 
   pub answer_bytes_lem : record_bytes m a ≡ recorded
   answer_bytes_lem = bytes_back a recorded rest answer_fits refl
@@ -193,22 +198,18 @@ whole_is s r = by (eqb (length s) 0) (bad_fields (fields_at s)) (cut_record s (f
     by : (none bad cut : Bool)
         → (when none answer stands.End else when bad || cut answer stands.Bad else stands.Whole (fields_at s)) ≡ stands.Whole r
         → (fields_at s ≡ r) × (bad ≡ false)
-    by true bad cut e = let z : ◌≡◌ {A = ℕ} 0 1 = cc in let f : ⊥ = omega arith in absurd f
-    by false true cut e = let z : ◌≡◌ {A = ℕ} 0 1 = cc in let f : ⊥ = omega arith in absurd f
-    by false false true e = let z : ◌≡◌ {A = ℕ} 0 1 = cc in let f : ⊥ = omega arith in absurd f
+    by true bad cut e = cc
+    by false true cut e = cc
+    by false false true e = cc
     by false false false e = (cc, refl)
-
-neither : (a b : Bool) → (a || b) ≡ false → (a ≡ false) × (b ≡ false)
-neither true b e = absurd (false≢true (sym e))
-neither false b e = (refl, e)
 
 -- what has no bad fields
 fields_stand : (r : Record) (bytes : List ℕ) → bad_fields r ≡ false → Fits r → length bytes ≡ r.length → CallStands r bytes
 unfolding unknown_kind length_over ◌outside◌to◌
 fields_stand r bytes e fits size =
-    let wrong = neither (wrong_mark r || (ltb r.kind begin_kind || ltb close_kind r.kind)) (ltb most_record_bytes r.length) e in
-    let unknown = neither (wrong_mark r) (ltb r.kind begin_kind || ltb close_kind r.kind) wrong.0 in
-    let kinds = neither (ltb r.kind begin_kind) (ltb close_kind r.kind) unknown.1 in
+    let wrong = or_parts (wrong_mark r || (ltb r.kind begin_kind || ltb close_kind r.kind)) (ltb most_record_bytes r.length) e in
+    let unknown = or_parts (wrong_mark r) (ltb r.kind begin_kind || ltb close_kind r.kind) wrong.0 in
+    let kinds = or_parts (ltb r.kind begin_kind) (ltb close_kind r.kind) unknown.1 in
     record {
       marked = marked_by r unknown.0;
       first_kind = ltb-false r.kind begin_kind kinds.0;
@@ -238,7 +239,7 @@ module _ (s : List ℕ) (bytes : Bytes s) (r : Record) (e : record_of s ≡ stan
 abbrev record_from : ℕ → ℕ → ℕ → ℕ → ℕ → Record
 record_from m k s n l = record { mark = m; kind = k; slot = s; now = record { 0 = n }; length = l }
 
-module _ (call : Record) (s : List ℕ) (bytes : Bytes s) (a : Record) (e : behind_of call s ≡ Recorded a) where
+module _ (call : Record) (s : List ℕ) (bytes : Bytes s) (a : Record) (e : behind_of call s ≡ Some a) where
   abbrev recorded : List ℕ
   recorded = record_bytes s a
 

@@ -18,8 +18,7 @@ use Rattle.trace.specs.declared.Next.{Next}
 use Rattle.trace.specs.declared.Next.TheVariants as stands
 use Rattle.replay_lines.specs.Replay.{any_out}
 use Rattle.recorded_answer.specs.Answer.{answer_bytes, is_right, behind_of}
-use Rattle.recorded_answer.specs.declared.Behind.{Behind}
-use Rattle.recorded_answer.specs.declared.Behind.TheVariants.{NoAnswer, Recorded}
+use Rattle.std.specs.Prelude.{Option, Some, None}
 use Rattle.recorder_file.specs.Said.{bad_told}
 use Rattle.recorder_file.specs.Check.{
   Checked,
@@ -101,14 +100,14 @@ module _ (p : Progress) (l : List ℕ) (r : Record) (e : record_of l ≡ stands.
   abbrev behind : List ℕ
   behind = drop (size_of r) l
 
-  pub found_alone : behind_of r behind ≡ NoAnswer → found_of p l ≡ passes (size_of r) 0 (left_by p.table r l).table
+  pub found_alone : behind_of r behind ≡ None → found_of p l ≡ passes (size_of r) 0 (left_by p.table r l).table
   found_alone none =
-      ap (λ (n : Next). found_on p n l) e ∙ ap (λ (b : Behind). found_at_call p.passed r b behind (left_by p.table r l)) none
+      ap (λ (n : Next). found_on p n l) e ∙ ap (λ (b : Option Record). found_at_call p.passed r b behind (left_by p.table r l)) none
 
-  pub found_answered : (a : Record) → behind_of r behind ≡ Recorded a
+  pub found_answered : (a : Record) → behind_of r behind ≡ Some a
       → found_of p l ≡ held_against p.passed r a (record_bytes behind a) (left_by p.table r l)
   found_answered a there =
-      ap (λ (n : Next). found_on p n l) e ∙ ap (λ (b : Behind). found_at_call p.passed r b behind (left_by p.table r l)) there
+      ap (λ (n : Next). found_on p n l) e ∙ ap (λ (b : Option Record). found_at_call p.passed r b behind (left_by p.table r l)) there
 
 -- an answer is held against the right one
 module _ (passed : Passed) (r a : Record) (recorded : List ℕ) (left : LeftAt) where
@@ -140,7 +139,7 @@ after p (e ∷ es) = after (next_by p e) es
 
 -- what stands behind an entry is not its answer
 abbrev pub Clear : Entry → List ℕ → Type 0
-Clear (alone call bytes) rest = behind_of call rest ≡ NoAnswer
+Clear (alone call bytes) rest = behind_of call rest ≡ None
 Clear (answered call bytes recorded) rest = Unit {0}
 
 module _ (p : Progress) (call : Record) (bytes : List ℕ) (s : CallStands call bytes) (rest : List ℕ) where
@@ -159,7 +158,7 @@ module _ (p : Progress) (call : Record) (bytes : List ℕ) (s : CallStands call 
   behind_is : drop (size_of call) l ≡ rest
   behind_is = call_rest call bytes rest s
 
-  passes_alone : behind_of call rest ≡ NoAnswer → checked_from p l ≡ checked_from (next_by p (alone call bytes)) rest
+  passes_alone : behind_of call rest ≡ None → checked_from p l ≡ checked_from (next_by p (alone call bytes)) rest
   passes_alone none =
       goes_on_lem p l (found_alone p l call first (ap (behind_of call) behind_is ∙ none))
       ∙ ap (λ (x : LeftAt). checked_from (progress_of x.table (one_call_more p.passed (size_of call) 0) false) (drop (size_of call) l)) same_left
@@ -222,7 +221,7 @@ one_passes p (answered call bytes recorded) rest s right clear = passes_answered
 -- ---- all of them
 
 -- an entry begins with a call, which is no answer
-pub entry_no_answer : (before : Record) (e : Entry) (rest : List ℕ) → EntryStands e → behind_of before (entry_bytes e ++ rest) ≡ NoAnswer
+pub entry_no_answer : (before : Record) (e : Entry) (rest : List ℕ) → EntryStands e → behind_of before (entry_bytes e ++ rest) ≡ None
 entry_no_answer before (alone call bytes) rest s = call_no_answer call bytes rest s before
 entry_no_answer before (answered call bytes recorded) rest s =
     let a = whole_record (answer_record call recorded) recorded in
@@ -235,7 +234,7 @@ ClearLast (e ∷ []) rest = Clear e rest
 ClearLast (e ∷ f ∷ es) rest = ClearLast (f ∷ es) rest
 
 -- no answer stands there at all
-pub clear_of : (es : List Entry) (rest : List ℕ) → ((before : Record) → behind_of before rest ≡ NoAnswer) → ClearLast es rest
+pub clear_of : (es : List Entry) (rest : List ℕ) → ((before : Record) → behind_of before rest ≡ None) → ClearLast es rest
 clear_of [] rest none = tt
 clear_of (alone call bytes ∷ []) rest none = none call
 clear_of (answered call bytes recorded ∷ []) rest none = tt

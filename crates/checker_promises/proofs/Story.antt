@@ -20,8 +20,7 @@ use Rattle.trace.specs.declared.Next.{Next}
 use Rattle.trace.specs.declared.Next.TheVariants as stands
 use Rattle.trace.proofs.Records.{none_ends, whole_fits}
 use Rattle.recorded_answer.specs.Answer.{answer_bytes, is_right, behind_of}
-use Rattle.recorded_answer.specs.declared.Behind.{Behind}
-use Rattle.recorded_answer.specs.declared.Behind.TheVariants.{NoAnswer, Recorded}
+use Rattle.std.specs.Prelude.{Option, Some, None}
 use Rattle.recorded_answer.proofs.Answers.{behind_is}
 use Rattle.recorder_file.specs.Check.{Checked, left_by, one_call_more, checked_from}
 use Rattle.recorder_file.specs.declared.Progress.{Progress}
@@ -156,8 +155,8 @@ end_empty l e = by (eqb (length l) 0) (bad_fields (fields_at l) || cut_record l 
     by : (none bad : Bool) → eqb (length l) 0 ≡ none
         → (when none answer stands.End else when bad answer stands.Bad else stands.Whole (fields_at l)) ≡ stands.End → l ≡ []
     by true bad is e = empty l (eqb-true (length l) 0 is)
-    by false true is e = let z : ◌≡◌ {A = ℕ} 0 1 = cc in let f : ⊥ = omega arith in absurd f
-    by false false is e = let z : ◌≡◌ {A = ℕ} 0 1 = cc in let f : ⊥ = omega arith in absurd f
+    by false true is e = cc
+    by false false is e = cc
 
 -- one that is bad is no other
 bad_not_end : {n : Next} → n ≡ stands.Bad → n ≡ stands.End → ⊥
@@ -166,8 +165,8 @@ bad_not_end e f = let g = sym e ∙ f in let z : ◌≡◌ {A = ℕ} 0 1 = cc in
 bad_not_whole : {n : Next} {r : Record} → n ≡ stands.Bad → n ≡ stands.Whole r → ⊥
 bad_not_whole e f = let g = sym e ∙ f in let z : ◌≡◌ {A = ℕ} 0 1 = cc in let c : ⊥ = omega arith in c
 
-none_not_recorded : {b : Behind} {a : Record} → b ≡ NoAnswer → b ≡ Recorded a → ⊥
-none_not_recorded e f = let g = sym e ∙ f in let z : ◌≡◌ {A = ℕ} 0 1 = cc in let c : ⊥ = omega arith in c
+none_not_recorded : {b : Option Record} {a : Record} → b ≡ None → b ≡ Some a → ⊥
+none_not_recorded e f = let g = sym e ∙ f in cc
 
 -- what is said from there on, at fewer bytes
 abbrev Later : ℕ → Type 0
@@ -210,7 +209,7 @@ module _ (p : Progress) (l : List ℕ) (b : Bytes l) where
     written : l ≡ whole_record r bytes ++ behind
     written = whole_written l b r e
 
-    at_alone : behind_of r behind ≡ NoAnswer → Told (checked_from p l)
+    at_alone : behind_of r behind ≡ None → Told (checked_from p l)
     at_alone none =
         subst Told (sym (goes_on_lem p l (found_alone p l r e none)))
         (extended p.table p.passed.calls p.passed.judged l (alone r bytes) call tt behind written
@@ -219,7 +218,7 @@ module _ (p : Progress) (l : List ℕ) (b : Bytes l) where
         (later (progress_of (left_by p.table r l).table (one_call_more p.passed (size_of r) 0) false) behind (bytes_behind (size_of r) l b)
         (omega (arith, few, whole_fits l r e, length-drop (size_of r) l))))
 
-    module _ (a : Record) (there : behind_of r behind ≡ Recorded a) where
+    module _ (a : Record) (there : behind_of r behind ≡ Some a) where
       abbrev recorded : List ℕ
       recorded = record_bytes behind a
 
@@ -274,9 +273,9 @@ module _ (p : Progress) (l : List ℕ) (b : Bytes l) where
               let yes = ap (λ (w : List ℕ). is_right w left.answer left.out) same ∙ same_itself (answer_bytes left.answer left.out) in
               absurd (false≢true (sym is ∙ yes))
 
-    at_call : (k : Behind) → behind_of r behind ≡ k → Told (checked_from p l)
-    at_call NoAnswer there = at_alone there
-    at_call (Recorded a) there = by (is_right (recorded a there) (left a there).answer (left a there).out) refl
+    at_call : (k : Option Record) → behind_of r behind ≡ k → Told (checked_from p l)
+    at_call None there = at_alone there
+    at_call (Some a) there = by (is_right (recorded a there) (left a there).answer (left a there).out) refl
       where
         by : (yes : Bool) → is_right (recorded a there) (left a there).answer (left a there).out ≡ yes → Told (checked_from p l)
         by true is = at_right a there is

@@ -6,12 +6,12 @@ use Rattle.rules.specs.Rows.{when◌answer◌else◌}
 use Rattle.rules.proofs.Integers.{less_is}
 use Rattle.clock.specs.Clock.{wrapped, centred, sign_magnitude_of, offset_read}
 use Rattle.clock.specs.declared.Offset.{Offset}
-use Rattle.clock.specs.declared.OffsetRead.TheVariants.{Is, Malformed}
+use Rattle.std.specs.Prelude.{Some, None}
 use Rattle.clock.proofs.Cases.{signed_as, offset}
 use Rattle.clock.proofs.Wrapped.{◌≈◌, ≈-sym, ≈-trans, wrapped_lt, wrapped-≈, centred-≈, centred_is}
 
 -- the sign and magnitude of an offset read as that offset
-pub offset_there : (z : ℤ) → mag z < 2 ^ 31 → offset_read (sign_magnitude_of z).sign (sign_magnitude_of z).magnitude ≡ Is (offset z)
+pub offset_there : (z : ℤ) → mag z < 2 ^ 31 → offset_read (sign_magnitude_of z).sign (sign_magnitude_of z).magnitude ≡ Some (offset z)
 unfolding sign_magnitude_of offset_read
 offset_there (pos n) h = simp (lt-ltb n (2 ^ 31) h)
 offset_there (negsuc n) h =
@@ -33,12 +33,12 @@ minus_as zero h = let z : ⊥ = omega arith in absurd z
 minus_as (suc n) h = refl
 
 -- what is read as an offset has that sign and magnitude
-pub offset_back : (s n : ℕ) (x : Offset) → offset_read s n ≡ Is x → sign_magnitude_of x.0 ≡ signed_as s n
+pub offset_back : (s n : ℕ) (x : Offset) → offset_read s n ≡ Some x → sign_magnitude_of x.0 ≡ signed_as s n
 unfolding offset_read sign_magnitude_of
 offset_back s n x e = go (eqb s 0 && ltb n (2 ^ 31)) (eqb s 1 && leb 1 n && leb n (2 ^ 31)) refl refl e
   where
     go : (a b : Bool) → eqb s 0 && ltb n (2 ^ 31) ≡ a → eqb s 1 && leb 1 n && leb n (2 ^ 31) ≡ b
-        → (when a answer Is (offset (pos n)) else when b answer Is (offset (neg_ℤ (pos n))) else Malformed) ≡ Is x
+        → (when a answer Some (offset (pos n)) else when b answer Some (offset (neg_ℤ (pos n))) else None) ≡ Some x
         → sign_magnitude_of x.0 ≡ signed_as s n
     go true b p q k =
         let o : offset (pos n) ≡ x = cc in

@@ -1,10 +1,9 @@
 -- Numbers mod 2^32: what is apart by a multiple of it, and what centres a number.
 -- Assumes nothing.
-use Rattle.std.proofs.Common.{◌≡◌, ℕ, zero, suc, ◌+◌, ◌-◌, ◌*◌, ◌/◌, ◌%◌, ◌^◌, ◌<◌, ◌≤◌, Bool, true, false, not, T, ltb, leb, ℤ, pos, negsuc, ◌+ℤ◌, ◌-ℤ◌, neg_ℤ, nat_abs, sym, refl, ap, ◌∙◌, subst, arith, ltb→lt, nltb→le, to_z-of_z, w32, w64, SFits, to_z, of_z, ltb-false, ltb-true, le-ltb, lt-ltb, le-leb}
+use Rattle.std.proofs.Common.{◌≡◌, ℕ, zero, suc, ◌+◌, ◌-◌, ◌*◌, ◌/◌, ◌%◌, ◌^◌, ◌<◌, ◌≤◌, Bool, true, false, not, T, ltb, leb, ℤ, pos, negsuc, ◌+ℤ◌, ◌-ℤ◌, neg_ℤ, nat_abs, sym, refl, ap, ◌∙◌, subst, arith, ltb→lt, nltb→le, w32, SFits, to_z, of_z, ltb-false, ltb-true, le-ltb, lt-ltb, le-leb}
 use borrow.Author.Tests.{lt-leb}
-use lib.IntN.{+ℤ_idl, pos-ne-negsuc}
 use lib.Signed.{mag, lt_z}
-use mir.Syntax.{Width}
+use Rattle.std.specs.Int.{int_wrap, int_rem_euclid}
 use mir.Val.{sel}
 use Rattle.rules.specs.Modulo.{modulo}
 use Rattle.rules.specs.Rows.{when◌answer◌else◌}
@@ -110,12 +109,15 @@ centred_negative z = by (ltb (wrapped z) (2 ^ 31)) refl
 pub centred_is : (z w : ℤ) → w ≈ z → mag w < 2 ^ 31 → centred z ≡ w
 centred_is z w e h = one_of (centred z) w (≈-trans (centred-≈ z) (≈-sym e)) (centred_range z) h
 
--- ---- what the machine's signed operations ask
+-- ---- what the machine's signed operations give
 pub to_z_small : (n : ℕ) → n < 2 ^ 31 → to_z w32 n ≡ pos n
 to_z_small n h = one_of (to_z w32 n) (pos n) (to_z-≈ n (omega arith)) (to_z_range n (omega arith)) h
 
 pub centred_bits : (n : ℕ) → n < 2 ^ 32 → centred (pos n) ≡ to_z w32 n
 centred_bits n h = centred_is (pos n) (to_z w32 n) (to_z-≈ n h) (to_z_range n h)
+
+pub centred_small : (n : ℕ) → n < 2 ^ 31 → centred (pos n) ≡ pos n
+centred_small n h = centred_bits n (omega arith) ∙ to_z_small n h
 
 pub below_zero : (z : ℤ) → lt_z z (pos 0) ≡ true → z ≡ negsuc (mag z)
 below_zero (pos n) e = let h : n < 0 = ltb-true n 0 e in let x : ⊥ = omega arith in absurd x
@@ -132,75 +134,44 @@ centred_same {x} {y} e = centred_is x (centred y) (≈-trans (centred-≈ y) (�
 pub wrapped_of : {r : ℕ} {z : ℤ} → r ≡ wrapped z → pos r ≈ z
 wrapped_of {r} {z} e = rw e (wrapped-≈ z)
 
-pub wrap_add : {a b r : ℕ} {x y : ℤ} → r ≡ (a + b) % 2 ^ 32 → pos a ≈ x → pos b ≈ y → pos r ≈ x +ℤ y
-wrap_add {a} {b} {r} {x} {y} e f g =
+pub wrap_add : {a b : ℕ} {x y : ℤ} → pos a ≈ x → pos b ≈ y → pos ((a + b) % 2 ^ 32) ≈ x +ℤ y
+wrap_add {a} {b} f g =
     ≈-trans (record { on = (a + b) / 2 ^ 32; off = 0; apart = omega (arith, sum_is (pos a) (pos b)) }) (≈-sum f g)
 
-pub wrap_sub : {a b r : ℕ} {x y : ℤ} → (r + b) % 2 ^ 32 ≡ a → pos a ≈ x → pos b ≈ y → pos r ≈ x -ℤ y
-wrap_sub {a} {b} {r} {x} {y} e f g =
-    ≈-trans {b = pos a -ℤ pos b} (record { on = 0; off = (r + b) / 2 ^ 32; apart = omega (arith, less_is (pos a) (pos b)) }) (≈-less f g)
+pub wrap_sub : {a b : ℕ} {x y : ℤ} → b < 2 ^ 32 → pos a ≈ x → pos b ≈ y → pos ((a + (2 ^ 32 - b)) % 2 ^ 32) ≈ x -ℤ y
+wrap_sub {a} {b} h f g =
+    ≈-trans {b = pos a -ℤ pos b}
+    (record { on = (a + (2 ^ 32 - b)) / 2 ^ 32; off = 1; apart = omega (arith, less_is (pos a) (pos b)) })
+    (≈-less f g)
 
--- a signed local that a test found negative, or not
-pub lower : {z : ℤ} → SFits w32 z → lt_z (to_z w32 (of_z w32 z)) (pos 0) ≡ true → to_z w32 (of_z w32 z) ≡ negsuc (mag z)
-lower {z} f t = to_z-of_z f ∙ below_zero z (rw (to_z-of_z f) at t)
+rest_is : (z : ℤ) → nat_abs (int_rem_euclid z (pos (2 ^ 32))) ≡ wrapped z
+unfolding wrapped modulo
+rest_is (pos n) = refl
+rest_is (negsuc n) = omega arith
 
-pub upper : {z : ℤ} → SFits w32 z → lt_z (to_z w32 (of_z w32 z)) (pos 0) ≡ false → to_z w32 (of_z w32 z) ≡ pos (mag z)
-upper {z} f t = to_z-of_z f ∙ from_zero z (rw (to_z-of_z f) at t)
+-- the machine's wrapping is what centres a number
+pub centred_wraps : (z : ℤ) → int_wrap w32 z ≡ centred z
+unfolding int_wrap
+centred_wraps z = ap (to_z w32) (rest_is z) ∙ sym (centred_to_z z)
 
--- ---- negation in 64 bits, which has room for 2^31
-pub neg_fits : (m : ℕ) → m ≤ 2 ^ 31 → SFits w32 (neg_ℤ (pos m))
+-- two's complement of a number in range
+pub wrapped_in : (z : ℤ) → mag z < 2 ^ 31 → of_z w32 z ≡ wrapped z
+unfolding wrapped modulo
+wrapped_in (pos n) h = omega arith
+wrapped_in (negsuc n) h = omega arith
+
+-- the negation of a magnitude up to 2^31 is an i32
+neg_fits : (m : ℕ) → m ≤ 2 ^ 31 → SFits w32 (neg_ℤ (pos m))
 neg_fits zero h = record { sfits = omega arith }
 neg_fits (suc m) h = record { sfits = omega arith }
 
-pub zero_less : (z : ℤ) → pos 0 -ℤ z ≡ neg_ℤ z
-zero_less z = +ℤ_idl (neg_ℤ z)
-
--- what a signed local holds is read back
-pub reads : {w : Width} {z y : ℤ} → z ≡ y → SFits w y → to_z w (of_z w z) ≡ y
-reads {w} e f = ap (λ (x : ℤ). to_z w (of_z w x)) e ∙ to_z-of_z f
-
--- `-(z as i64)`, of a local z that holds y
-pub minus_of : {z y : ℤ} → z ≡ y → SFits w64 y → pos 0 -ℤ to_z w64 (of_z w64 z) ≡ neg_ℤ y
-minus_of {z} {y} e f = ap (λ (x : ℤ). pos 0 -ℤ x) (reads e f) ∙ zero_less y
-
-pub fits_as : {w : Width} {z y : ℤ} → z ≡ y → SFits w y → SFits w z
-fits_as {w} e f = subst (SFits w) (sym e) f
-
--- the bits of a negative number, and of another
-pub wrapped_below : (z : ℤ) (r : ℕ) → mag z < 2 ^ 31 → z ≡ negsuc (mag z) → r < 2 ^ 32 → (r + nat_abs z) % 2 ^ 32 ≡ 0 → r ≡ wrapped z
-unfolding wrapped modulo
-wrapped_below (pos n) r h e k q = absurd (pos-ne-negsuc n n e)
-wrapped_below (negsuc n) r h e k q = omega arith
-
-pub wrapped_from : (z : ℤ) → mag z < 2 ^ 31 → z ≡ pos (mag z) → nat_abs z ≡ wrapped z
-unfolding wrapped modulo
-wrapped_from (pos n) h e = omega arith
-wrapped_from (negsuc n) h e = absurd (pos-ne-negsuc n n (sym e))
-
 -- the number of 0 .. 2^32-1 that differs from another by a multiple of 2^32
-wrapped_is : (z : ℤ) (n : ℕ) → pos n ≈ z → n < 2 ^ 32 → wrapped z ≡ n
+pub wrapped_is : (z : ℤ) (n : ℕ) → pos n ≈ z → n < 2 ^ 32 → wrapped z ≡ n
 wrapped_is z n e h = let f : pos (wrapped z) ≈ pos n = ≈-trans (wrapped-≈ z) (≈-sym e) in omega (arith, wrapped_lt z, f.apart)
-
--- the bits of a negative number's negation are its size, up to 2^31
-pub wrapped_negation : (z : ℤ) → mag z < 2 ^ 31 → z ≡ negsuc (mag z) → wrapped (centred (neg_ℤ z)) ≡ nat_abs z
-wrapped_negation (pos n) h e = absurd (pos-ne-negsuc n n e)
-wrapped_negation (negsuc n) h e = wrapped_is (centred (pos (suc n))) (suc n) (≈-sym (centred-≈ (pos (suc n)))) (omega arith)
 
 -- the negation of a magnitude, down to -2^31
 pub centred_negation : (m : ℕ) → m ≤ 2 ^ 31 → centred (neg_ℤ (centred (pos m))) ≡ neg_ℤ (pos m)
 centred_negation m h = centred_is (neg_ℤ (centred (pos m))) (neg_ℤ (pos m)) (≈-neg (≈-sym (centred-≈ (pos m)))) (neg_fits m h).sfits
-
--- the number of the other half: x - 2^32
-pub centred_upper : (x m : ℕ) → x + m ≡ 2 ^ 32 → m ≤ 2 ^ 31 → neg_ℤ (pos m) ≡ centred (pos x)
-centred_upper x m e h =
-    sym (centred_is (pos x) (neg_ℤ (pos m)) (record { on = 1; off = 0; apart = omega (arith, neg_up (pos m), neg_dn (pos m)) }) (neg_fits m h).sfits)
-
--- what a test of a signed local says of the number
-pub is_below : {z : ℤ} → SFits w32 z → lt_z (to_z w32 (of_z w32 z)) (pos 0) ≡ true → z ≡ negsuc (mag z)
-is_below {z} f t = below_zero z (rw (to_z-of_z f) at t)
-
-pub is_from : {z : ℤ} → SFits w32 z → lt_z (to_z w32 (of_z w32 z)) (pos 0) ≡ false → z ≡ pos (mag z)
-is_from {z} f t = from_zero z (rw (to_z-of_z f) at t)
 
 -- ---- a clock that went on by less than 2^31 does not go back
 pub waited_goes_on : (now since : ℕ) → wait_of now since < 2 ^ 31 → goes_back now since ≡ false

@@ -1,13 +1,12 @@
 -- Counts, offsets and ages, over the integers.
-use Rattle.std.specs.Prelude.{ℕ, suc, ◌^◌, Bool, ◌&&◌, eqb, ltb, leb, ℤ, pos, negsuc, ◌+ℤ◌, ◌-ℤ◌, neg_ℤ, int_lt, nat_le}
+use Rattle.std.specs.Prelude.{ℕ, suc, ◌^◌, Bool, ◌&&◌, eqb, ltb, leb, ℤ, pos, negsuc, ◌+ℤ◌, ◌-ℤ◌, neg_ℤ, int_lt, nat_le, Option, Some, None}
 use Rattle.rules.specs.Modulo.{modulo}
 use Rattle.rules.specs.Rows.{when◌answer◌else◌}
 use Rattle.clock.specs.declared.Age.{Age}
 use Rattle.clock.specs.declared.Verdict.{Verdict}
 use Rattle.clock.specs.declared.Verdict.TheVariants.{Future, Late, Fresh}
 use Rattle.clock.specs.declared.SignMagnitude.{SignMagnitude}
-use Rattle.clock.specs.declared.OffsetRead.{OffsetRead}
-use Rattle.clock.specs.declared.OffsetRead.TheVariants.{Is, Malformed}
+use Rattle.clock.specs.declared.Offset.{Offset}
 
 -- TIME-1: a count wraps
 unfoldable pub wrapped : ℤ → ℕ
@@ -54,8 +53,8 @@ sign_magnitude_of (pos n) = record { sign = 0; magnitude = n }
 sign_magnitude_of (negsuc n) = record { sign = 1; magnitude = suc n }
 
 -- MSG-SIGN: the offset that a pair gives; MSG-PAIR: every other pair is malformed
-unfoldable pub offset_read : ℕ → ℕ → OffsetRead
+unfoldable pub offset_read : ℕ → ℕ → Option Offset
 offset_read sign magnitude =
-    when eqb sign 0 && ltb magnitude (2 ^ 31) answer Is (record { 0 = pos magnitude }) else
-    when eqb sign 1 && nat_le 1 magnitude && leb magnitude (2 ^ 31) answer Is (record { 0 = neg_ℤ (pos magnitude) }) else
-    Malformed
+    when eqb sign 0 && ltb magnitude (2 ^ 31) answer Some (record { 0 = pos magnitude }) else
+    when eqb sign 1 && nat_le 1 magnitude && leb magnitude (2 ^ 31) answer Some (record { 0 = neg_ℤ (pos magnitude) }) else
+    None

@@ -1,23 +1,23 @@
 // Counts, offsets and ages: KIND-1.
 #![tactic(auto)]
 
-ghost use Rattle.std.specs.Prelude.{◌≡◌, ◌^◌, ◌≤◌, pos, ◌+ℤ◌, ◌-ℤ◌, neg_ℤ, int_lt, unsigned_abs};
+ghost use Rattle.std.specs.Prelude.{◌≡◌, ℤ, pos, ◌+ℤ◌, ◌-ℤ◌, neg_ℤ, int_lt, unsigned_abs};
 ghost use Rattle.clock.specs.Clock.{wrapped, centred, goes_back, wait_of, age_of, no_age, verdict_of, sign_magnitude_of, offset_read};
 
 // A clock's count of 10 ms ticks, mod 2^32.
-#[derive(Clone, Copy)]
+#[derive(Clone, Copy, PartialEq, Eq, Debug)]
 pub struct Count(pub u32);
 
 // Own count minus the peer's.
-#[derive(Clone, Copy)]
+#[derive(Clone, Copy, PartialEq, Eq, Debug)]
 pub struct Offset(pub i32);
 
 // How old a message is; negative where it seems to come from the future.
-#[derive(Clone, Copy)]
+#[derive(Clone, Copy, PartialEq, Eq, Debug)]
 pub struct Age(pub i32);
 
 // What an age says of a message: 206, 205, or handed up.
-#[derive(Clone, Copy)]
+#[derive(Clone, Copy, PartialEq, Eq, Debug)]
 pub enum Verdict {
     Future,
     Late,
@@ -25,72 +25,71 @@ pub enum Verdict {
 }
 
 // An offset as a message carries it.
-#[derive(Clone, Copy)]
+#[derive(Clone, Copy, PartialEq, Eq, Debug)]
 pub struct SignMagnitude {
     pub sign: u8,
     pub magnitude: u32,
 }
 
-// The offset that a sign and a magnitude give.
-#[derive(Clone, Copy)]
-pub enum OffsetRead {
-    Is(Offset),
-    Malformed,
-}
+// KIND-3: a number taken in -2^31 .. 2^31-1. Offsets and ages are such numbers, of two kinds.
+pub trait Centred: Copy {
+    ghost number: { Self → ℤ };
 
-// A number taken in -2^31 .. 2^31-1, of none of the three kinds.
-#[derive(Clone, Copy)]
-struct Centred(i32);
+    fn number(self) -> i32
+        ensures { result ≡ number self };
 
-impl Centred {
-    // -m, down to -2^31.
-    fn minus(m: u32) -> Centred
-        requires { m ≤ 2 ^ 31 }
-        ensures { result.0 ≡ neg_ℤ (pos m) }
+    fn of_number(z: i32) -> Self
+        ensures { number result ≡ z };
+
+    // The one that is x mod 2^32.
+    final fn of_bits(x: u32) -> Self
+        ensures { number result ≡ centred (pos x) }
     {
-        Centred((-(m as i64)) as i32)
-    }
-
-    // The number that is x mod 2^32.
-    fn of(x: u32) -> Centred
-        ensures { result.0 ≡ centred (pos x) }
-    {
-        if x < 0x8000_0000 {
-            Centred(x as i32)
-        } else {
-            Centred::minus(0xffff_ffff - x + 1)
-        }
-    }
-
-    // Its size, up to 2^31, which is no i32.
-    fn size(self) -> u32
-        ensures { result ≡ unsigned_abs self.0 }
-    {
-        let z = self.0;
-        if z < 0 {
-            (-(z as i64)) as u32
-        } else {
-            z as u32
-        }
-    }
-
-    fn negative(self) -> bool
-        ensures { result ≡ int_lt self.0 (pos 0) }
-    {
-        self.0 < 0
+        Self::of_number(x.cast_signed())
     }
 
     // The number mod 2^32: its two's complement.
-    fn bits(self) -> u32
-        ensures { result ≡ wrapped self.0 }
+    final fn bits(self) -> u32
+        ensures { result ≡ wrapped (number self) }
     {
-        let z = self.0;
-        let m = self.size();
-        if z < 0 {
-            std::num::wrapping_sub_u32(0, m)
-        } else {
-            m
-        }
+        self.number().cast_unsigned()
+    }
+
+    // Its size, up to 2^31, which is no i32.
+    final fn size(self) -> u32
+        ensures { result ≡ unsigned_abs (number self) }
+    {
+        self.number().unsigned_abs()
+    }
+
+    final fn negative(self) -> bool
+        ensures { result ≡ int_lt (number self) (pos 0) }
+    {
+        self.number() < 0
+    }
+}
+
+impl Centred for Offset {
+    ghost number = { λ offset. offset.0 };
+
+    fn number(self) -> i32 {
+        self.0
+    }
+
+    fn of_number(z: i32) -> Offset {
+        Offset(z)
+    }
+}
+
+impl Centred for Age {
+    ghost number = { λ age. age.0 };
+
+    fn number(self) -> i32 {
+        self.0
+    }
+
+    fn of_number(z: i32) -> Age {
+        Age(z)
     }
 }
 
@@ -106,98 +105,59 @@ impl Count {
     pub fn wait_of(self, since: Count) -> u32
         ensures { result ≡ wait_of self.0 since.0 }
     {
-        std::num::wrapping_sub_u32(self.0, since.0)
+        self.0.wrapping_sub(since.0)
     }
 }
 
 impl Offset {
-    // The offset that is x mod 2^32.
-    fn of_bits(x: u32) -> Offset
-        ensures { result.0 ≡ centred (pos x) }
-    {
-        let z = Centred::of(x);
-        Offset(z.0)
-    }
-
-    // The number mod 2^32: its two's complement.
-    pub fn bits(self) -> u32
-        ensures { result ≡ wrapped self.0 }
-    {
-        Centred(self.0).bits()
-    }
-
     // The centred difference of two counts.
     pub fn between(own: Count, peer: Count) -> Offset
         ensures { result.0 ≡ centred (pos own.0 -ℤ pos peer.0) }
     {
-        Offset::of_bits(std::num::wrapping_sub_u32(own.0, peer.0))
-    }
-
-    pub fn size(self) -> u32
-        ensures { result ≡ unsigned_abs self.0 }
-    {
-        Centred(self.0).size()
-    }
-
-    pub fn negative(self) -> bool
-        ensures { result ≡ int_lt self.0 (pos 0) }
-    {
-        Centred(self.0).negative()
+        Offset::of_bits(own.0.wrapping_sub(peer.0))
     }
 
     // KIND-6: of -2^31 it is -2^31 again.
     pub fn negated(self) -> Offset
         ensures { result.0 ≡ centred (neg_ℤ self.0) }
     {
-        Offset::of_bits(std::num::wrapping_sub_u32(0, self.bits()))
+        Offset(self.0.wrapping_neg())
     }
 
+    // Stays: names, and no operators: these wrap, where `+` and `-` of numbers ask that the result fits.
     pub fn plus(self, other: Offset) -> Offset
         ensures { result.0 ≡ centred (self.0 +ℤ other.0) }
     {
-        Offset::of_bits(std::num::wrapping_add_u32(self.bits(), other.bits()))
+        Offset(self.0.wrapping_add(other.0))
     }
 
     pub fn minus(self, other: Offset) -> Offset
         ensures { result.0 ≡ centred (self.0 -ℤ other.0) }
     {
-        Offset::of_bits(std::num::wrapping_sub_u32(self.bits(), other.bits()))
+        Offset(self.0.wrapping_sub(other.0))
     }
 
     // As a message carries it: of a negative offset, the magnitude is its negation, up to 2^31.
     pub fn sign_magnitude(self) -> SignMagnitude
         ensures { result ≡ sign_magnitude_of self.0 }
     {
-        if self.negative() {
-            return SignMagnitude {
-                sign: 1,
-                magnitude: self.negated().bits(),
-            };
-        }
         SignMagnitude {
-            sign: 0,
-            magnitude: self.bits(),
+            sign: u8::from(self.negative()),
+            magnitude: self.size(),
         }
     }
 
     // From what a message carries: with sign 1, the magnitude negated.
-    pub fn read(sign: u8, magnitude: u32) -> OffsetRead
+    pub fn read(sign: u8, magnitude: u32) -> Option<Offset>
         ensures { result ≡ offset_read sign magnitude }
     {
-        if sign == 0 {
-            if magnitude < 0x8000_0000 {
-                return OffsetRead::Is(Offset(magnitude as i32));
-            }
-            return OffsetRead::Malformed;
+        match sign {
+            0 if magnitude < 0x8000_0000 => Some(Offset::of_bits(magnitude)),
+            1 if (1..=0x8000_0000).contains(&magnitude) => Some(Offset::of_bits(
+                magnitude,
+            ).negated()),
+            _ => None,
         }
-        if sign == 1 {
-            if 0 < magnitude {
-                if magnitude <= 0x8000_0000 {
-                    return OffsetRead::Is(Offset::of_bits(magnitude).negated());
-                }
-            }
-        }
-        OffsetRead::Malformed
     }
 }
 
@@ -209,55 +169,25 @@ impl Age {
         Age(0)
     }
 
-    // The age that is x mod 2^32.
-    pub fn of_bits(x: u32) -> Age
-        ensures { result.0 ≡ centred (pos x) }
-    {
-        let z = Centred::of(x);
-        Age(z.0)
-    }
-
     // AGE-1.
     pub fn of(now: Count, stamp: Count, e: u32, min: Offset) -> Age
         ensures { result.0 ≡ age_of now.0 stamp.0 e min.0 }
     {
-        let apart = std::num::wrapping_sub_u32(now.0, stamp.0);
-        let later = std::num::wrapping_add_u32(apart, e);
-        let z = Centred::of(std::num::wrapping_sub_u32(later, min.bits()));
-        Age(z.0)
+        let apart = now.0.wrapping_sub(stamp.0);
+        let later = apart.wrapping_add(e);
+        Age::of_bits(later.wrapping_sub(min.bits()))
     }
 
     // What T_max makes of it.
     pub fn verdict_of(self, t_max: u32) -> Verdict
         ensures { result ≡ verdict_of self.0 t_max }
     {
-        let z = self.0;
-        if z < 0 {
-            return Verdict::Future;
-        }
-        if t_max < z as u32 {
+        if self.negative() {
+            Verdict::Future
+        } else if t_max < self.size() {
             Verdict::Late
         } else {
             Verdict::Fresh
         }
-    }
-
-    pub fn size(self) -> u32
-        ensures { result ≡ unsigned_abs self.0 }
-    {
-        Centred(self.0).size()
-    }
-
-    pub fn negative(self) -> bool
-        ensures { result ≡ int_lt self.0 (pos 0) }
-    {
-        Centred(self.0).negative()
-    }
-
-    // The number mod 2^32: its two's complement.
-    pub fn bits(self) -> u32
-        ensures { result ≡ wrapped self.0 }
-    {
-        Centred(self.0).bits()
     }
 }

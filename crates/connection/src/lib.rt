@@ -21,6 +21,7 @@ use clock::{Count, Offset};
 use message::Header;
 
 // The phases, by their numbers: PHASE-0 to PHASE-6.
+// Stays: 01 names a match on the numbers of phases (FORM-7), and a host lends records of any phase (RECORD-1).
 pub const CLOSED: u8 = 0;
 
 pub const INITIATOR_WAITS_FOR_2: u8 = 1;
@@ -95,53 +96,37 @@ pub struct Connection {
 fn outside(x: u32, least: u32, most: u32) -> bool
     ensures { result ≡ (x outside least to most) }
 {
-    if x < least {
-        return true;
-    }
-    most < x
+    !(least..=most).contains(&x)
 }
 
 impl Settings {
     // CALL-104.
+    #[tactic(auto, unfolding(crate::specs::Connection::out_of_range))]
     pub fn out_of_range(self) -> bool
         ensures { result ≡ out_of_range self }
     {
-        if outside(self.n as u32, 1, MOST_N) {
-            return true;
-        }
-        if outside(self.t_max, 1, MOST_TIME) {
-            return true;
-        }
-        if outside(self.e, 0, self.t_max) {
-            return true;
-        }
-        if outside(self.t_start, 1, MOST_TIME) {
-            return true;
-        }
-        if outside(self.t_off, 0, MOST_TIME) {
-            return true;
-        }
-        outside(self.limit as u32, 1, MOST_LIMIT)
+        outside(u32::from(self.n), 1, MOST_N)
+            || outside(self.t_max, 1, MOST_TIME)
+            || outside(self.e, 0, self.t_max)
+            || outside(self.t_start, 1, MOST_TIME)
+            || outside(self.t_off, 0, MOST_TIME)
+            || outside(u32::from(self.limit), 1, MOST_LIMIT)
     }
 }
 
 impl Connection {
     // RECORD-1, of a record that is not closed.
+    #[tactic(auto, unfolding(crate::specs::Connection::unsound))]
     pub fn unsound(self) -> bool
         ensures { result ≡ unsound self }
     {
-        let settings = self.settings;
-        if settings.out_of_range() {
-            return true;
-        }
-        if outside(
-            self.phase as u32,
-            INITIATOR_WAITS_FOR_2 as u32,
-            OPENED as u32,
-        ) {
-            return true;
-        }
-        settings.limit <= self.errors
+        self.settings.out_of_range()
+            || outside(
+                u32::from(self.phase),
+                u32::from(INITIATOR_WAITS_FOR_2),
+                u32::from(OPENED),
+            )
+            || self.settings.limit <= self.errors
     }
 
     // RECORD-3: a released slot.
@@ -178,12 +163,14 @@ impl Connection {
     }
 
     // What begin is given for the whole of the connection.
-    pub fn configured(mut self, settings: Settings, own: Own) -> Connection
+    pub fn configured(self, settings: Settings, own: Own) -> Connection
         ensures { result ≡ configured self settings own }
     {
-        self.settings = settings;
-        self.own = own;
-        self
+        Connection {
+            settings,
+            own,
+            ..self
+        }
     }
 
     // The record of begin, before anything was sent.
@@ -197,62 +184,60 @@ impl Connection {
     }
 
     // KIND-5: the remembered clock.
-    pub fn clocked(mut self, now: Count) -> Connection
+    pub fn clocked(self, now: Count) -> Connection
         ensures { result ≡ clocked self now }
     {
-        self.clock = now;
-        self
+        Connection { clock: now, ..self }
     }
 
     // ERR-1, ERR-4: the error counter.
-    pub fn counted(mut self, errors: u8) -> Connection
+    pub fn counted(self, errors: u8) -> Connection
         ensures { result ≡ counted self errors }
     {
-        self.errors = errors;
-        self
+        Connection { errors, ..self }
     }
 
     // ERR-6: what is remembered of a message.
-    pub fn heard(mut self, h: Header, now: Count) -> Connection
+    pub fn heard(self, h: Header, now: Count) -> Connection
         ensures { result ≡ heard self h now }
     {
-        let stamp = h.stamp;
         let peer = Peer {
             number: h.number,
-            stamp,
+            stamp: h.stamp,
             arrival: now,
         };
-        self.peer = peer;
-        self
+        Connection { peer, ..self }
     }
 
     // NUMBER-1: one message more was sent.
-    pub fn sent(mut self) -> Connection
+    pub fn sent(self) -> Connection
         ensures { result ≡ sent self }
     {
         let own = Own {
             number: number::next_of(self.own.number),
-            period: self.own.period,
+            ..self.own
         };
-        self.own = own;
-        self
+        Connection { own, ..self }
     }
 
     // WAIT-1: a phase, and the now of the send that began its wait.
-    pub fn waiting(mut self, phase: u8, since: Count) -> Connection
+    pub fn waiting(self, phase: u8, since: Count) -> Connection
         ensures { result ≡ waiting self phase since }
     {
-        self.phase = phase;
-        self.wait_start = since;
-        self
+        Connection {
+            phase,
+            wait_start: since,
+            ..self
+        }
     }
 
     // OFFSET-2, OFFSET-3: the offsets of set-up.
-    pub fn with_offsets(mut self, min: Offset, max: Offset) -> Connection
+    pub fn with_offsets(self, min: Offset, max: Offset) -> Connection
         ensures { result ≡ with_offsets self min max }
     {
-        let offsets = Offsets { min, max };
-        self.offsets = offsets;
-        self
+        Connection {
+            offsets: Offsets { min, max },
+            ..self
+        }
     }
 }

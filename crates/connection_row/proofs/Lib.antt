@@ -1,3 +1,2 @@
-pub mod AllZero
 pub mod Accepts
 pub mod Writes

@@ -1,11 +1,9 @@
 -- The rows that a host stores: which are refused, and what reading and writing one leaves.
-use Rattle.std.specs.Prelude.{ℕ, Bool, true, not, ◌&&◌, List, [], ◌∷◌, ltb, eqb, length}
+use Rattle.std.specs.Prelude.{ℕ, Bool, true, not, ◌&&◌, List, [], ◌∷◌, ltb, eqb, length, Option, Some, None}
 use Rattle.std.proofs.lemmas.List.Edits.{sets}
 use Rattle.rules.specs.Rows.{when◌answer◌else◌}
 use Rattle.connection.specs.declared.Connection.{Connection}
 use Rattle.connection.specs.Connection.{closed, unsound}
-use Rattle.connection_row.specs.declared.RowRead.{RowRead}
-use Rattle.connection_row.specs.declared.RowRead.TheVariants.{Is, Refused}
 use Rattle.connection_row.specs.Row.{row_size, stands_for, row_bytes}
 
 -- ROW-3: each byte is 0
@@ -23,10 +21,10 @@ row_refusal row =
     0
 
 -- CALL-109: reading a row gives the record that it stands for, or refuses it
-unfoldable pub row_read : List ℕ → RowRead
+unfoldable pub row_read : List ℕ → Option Connection
 row_read row =
-    when eqb (row_refusal row) 0 answer Is (stands_for row) else
-    Refused
+    when eqb (row_refusal row) 0 answer Some (stands_for row) else
+    None
 
 -- What writing leaves: its answer's number, and what it was lent to write to.
 pub record Wrote : Type 0 where

@@ -9,18 +9,11 @@ ghost use Rattle.connection_row.specs.Row.{settings_widths, settings_from, setti
 ghost use Rattle.connection_row.specs.Row.{connection_from, row_size, offset_number, row_bytes};
 ghost use Rattle.connection_row.specs.Stored.{zeros, row_read, wrote, row_stored, row_written};
 
-use clock::{Count, Offset};
+use clock::{Centred, Count, Offset};
 use connection::{CLOSED, Connection, Offsets, Own, Peer, Settings};
 
 // ROW-1: the bytes of a row.
 pub const ROW_SIZE: usize = 53;
-
-// A row that was read: the record that it stands for, or refused.
-#[derive(Clone, Copy)]
-pub enum RowRead {
-    Is(Connection),
-    Refused,
-}
 
 // FIELD-2: the settings that stand in s from at.
 pub fn settings_from(s: &[u8], at: usize) -> Settings
@@ -28,12 +21,12 @@ pub fn settings_from(s: &[u8], at: usize) -> Settings
     ensures { result ≡ settings_from (fields_of settings_widths s.now at) }
 {
     Settings {
-        n: field::read16(s, at),
-        t_max: field::read32(s, at + 2),
-        e: field::read32(s, at + 6),
-        t_start: field::read32(s, at + 10),
-        t_off: field::read32(s, at + 14),
-        limit: field::read8(s, at + 18),
+        n: field::number_at(s, at),
+        t_max: field::number_at(s, at + 2),
+        e: field::number_at(s, at + 6),
+        t_start: field::number_at(s, at + 10),
+        t_off: field::number_at(s, at + 14),
+        limit: field::number_at(s, at + 18),
     }
 }
 
@@ -42,7 +35,7 @@ fn read_count(s: &[u8], at: usize) -> Count
     requires { at + 4 ≤ length s.now }
     ensures { result ≡ count_from (field_of s.now at 4) }
 {
-    Count(field::read32(s, at))
+    Count(field::number_at(s, at))
 }
 
 // FIELD-2: an offset in two's complement.
@@ -59,14 +52,14 @@ pub fn connection_from(s: &[u8], at: usize) -> Connection
     ensures { result ≡ connection_from (fields_of row_widths s.now at) }
 {
     Connection {
-        phase: field::read8(s, at),
+        phase: field::number_at(s, at),
         settings: settings_from(s, at + 1),
         own: Own {
-            number: field::read16(s, at + 20),
-            period: field::read32(s, at + 22),
+            number: field::number_at(s, at + 20),
+            period: field::number_at(s, at + 22),
         },
         peer: Peer {
-            number: field::read16(s, at + 26),
+            number: field::number_at(s, at + 26),
             stamp: read_count(s, at + 28),
             arrival: read_count(s, at + 32),
         },
@@ -75,7 +68,7 @@ pub fn connection_from(s: &[u8], at: usize) -> Connection
             min: read_offset(s, at + 40),
             max: read_offset(s, at + 44),
         },
-        errors: field::read8(s, at + 48),
+        errors: field::number_at(s, at + 48),
         clock: read_count(s, at + 49),
     }
 }
@@ -84,35 +77,28 @@ pub fn connection_from(s: &[u8], at: usize) -> Connection
 fn zeros(s: &[u8]) -> bool
     ensures { result ≡ zeros s.now }
 {
-    let mut i: usize = 0;
-    while i < s.len() {
-        if s[i] != 0 {
-            return false;
-        }
-        i += 1;
-    }
-    true
+    s.iter().all(|b| *b == 0)
 }
 
-// CALL-109.
-pub fn read_row(row: &[u8]) -> RowRead
+// CALL-109: the record that a row stands for, unless the row is refused.
+#[tactic(auto, unfolding(crate::specs::Row::stands_for, crate::specs::Stored::row_refusal, crate::specs::Stored::row_read))]
+pub fn read_row(row: &[u8]) -> Option<Connection>
     ensures { result ≡ row_read row.now }
 {
     if row.len() != ROW_SIZE {
-        return RowRead::Refused;
+        return None;
     }
     let c = connection_from(row, 0);
-    if c.phase == CLOSED {
-        if zeros(row) {
-            return RowRead::Is(c);
-        }
-        return RowRead::Refused;
+    if c.phase == CLOSED && !zeros(row) {
+        return None;
     }
-    if c.unsound() {
-        return RowRead::Refused;
+    if c.phase != CLOSED && c.unsound() {
+        return None;
     }
-    RowRead::Is(c)
+    Some(c)
 }
+
+// Stays: `row_size ≤ length row.old` four times, and no `[u8; ROW_SIZE]`: a longer row is lent too, and what is behind stays.
 
 // ROW-1: the phase and the settings.
 fn put_settings(row: &mut [u8], phase: u8, s: Settings)
@@ -134,26 +120,22 @@ fn put_own_and_peer(row: &mut [u8], own: Own, peer: Peer)
     ensures { row.new ≡ sets row.old 20 (row_of (2 ∷ 4 ∷ 2 ∷ 4 ∷ 4 ∷ [])
         (own.number ∷ own.period ∷ peer.number ∷ peer.stamp.0 ∷ peer.arrival.0 ∷ [])) }
 {
-    let stamp = peer.stamp;
-    let arrival = peer.arrival;
     field::write(row, 20, 2, own.number as u32);
     field::write(row, 22, 4, own.period);
     field::write(row, 26, 2, peer.number as u32);
-    field::write(row, 28, 4, stamp.0);
-    field::write(row, 32, 4, arrival.0);
+    field::write(row, 28, 4, peer.stamp.0);
+    field::write(row, 32, 4, peer.arrival.0);
 }
 
 // ROW-1: the rest, behind the peer's: the start of the wait, the offsets in two's complement, the error counter, the remembered clock.
-fn put_rest(row: &mut [u8], since: Count, min: Offset, max: Offset, errors: u8, clock: Count)
+fn put_rest(row: &mut [u8], since: Count, offsets: Offsets, errors: u8, clock: Count)
     requires { row_size ≤ length row.old }
     ensures { row.new ≡ sets row.old 36 (row_of (4 ∷ 4 ∷ 4 ∷ 1 ∷ 4 ∷ [])
-        (since.0 ∷ offset_number min ∷ offset_number max ∷ errors ∷ clock.0 ∷ [])) }
+        (since.0 ∷ offset_number offsets.min ∷ offset_number offsets.max ∷ errors ∷ clock.0 ∷ [])) }
 {
-    let low = min.bits();
-    let high = max.bits();
     field::write(row, 36, 4, since.0);
-    field::write(row, 40, 4, low);
-    field::write(row, 44, 4, high);
+    field::write(row, 40, 4, offsets.min.bits());
+    field::write(row, 44, 4, offsets.max.bits());
     field::write(row, 48, 1, errors as u32);
     field::write(row, 49, 4, clock.0);
 }
@@ -163,30 +145,24 @@ pub fn put_row(row: &mut [u8], c: Connection)
     requires { row_size ≤ length row.old }
     ensures { row.new ≡ sets row.old 0 (row_bytes c) }
 {
-    let settings = c.settings;
-    let own = c.own;
-    let peer = c.peer;
-    let since = c.wait_start;
-    let min = c.offsets.min;
-    let max = c.offsets.max;
-    let clock = c.clock;
-    put_settings(row, c.phase, settings);
-    put_own_and_peer(row, own, peer);
-    put_rest(row, since, min, max, c.errors, clock);
+    put_settings(row, c.phase, c.settings);
+    put_own_and_peer(row, c.own, c.peer);
+    put_rest(row, c.wait_start, c.offsets, c.errors, c.clock);
 }
 
 // ROW-5: a row that is not refused is stored at the start of out.
+// Stays: the number itself, 0, 108 or 109: `write_row` and C say it, and an enum of two would be turned into it in the next line.
+#[tactic(auto, using(crate::proofs::Accepts::refusals), unfolding(crate::specs::Stored::row_stored))]
 fn store_row(row: &[u8], out: &mut [u8]) -> u16
     ensures { wrote result out.new ≡ row_stored row.now out.old }
 {
-    let read = read_row(row);
-    let RowRead::Is(_) = read else {
+    if read_row(row).is_none() {
         return 109;
-    };
+    }
     if out.len() < ROW_SIZE {
         return 108;
     }
-    field::copy(out, 0, row);
+    out[..ROW_SIZE].copy_from_slice(row);
     0
 }
 

@@ -1,20 +1,21 @@
 // cut initiator|responder strict|loose NORMAL REDUNDANT [OURS [CALLER ..]]: takes packets from two recorded links, and prints each step.
 #![tactic(auto)]
 
-ghost use Rattle.std.specs.Prelude.{◌≡◌, true, false, ◌+◌, ◌^◌, ◌≤◌, ◌<◌, length};
-ghost use Rattle.window.specs.Window.{Within};
+ghost use Rattle.std.specs.Prelude.{◌≡◌, false, ◌+◌, ◌^◌, ◌≤◌, ◌<◌, [], length, IfOk};
+ghost use Rattle.window.specs.Window.{Within, low_of, failed_by, ToppedUp};
 ghost use Rattle.window.specs.MovedOnce.{RoomForTwo};
 ghost use Rattle.packet.specs.Sizes.{most_packet};
 ghost use Rattle.recording.specs.Printed.{most_line};
 ghost use Rattle.recording.specs.Progress.{Lies};
 ghost use Rattle.recording.specs.Whole.{BothToppedUp, TurnOf, PrintedToTheEnd, PrintedWhole, BothHaveRoom, BothMovedNoMore, Headed};
 
+use arrayvec::ArrayVec;
 use links::State;
 use packet::MOST_PACKET;
-use packet_types::ID_SIZE;
-use recording::{Advanced, Id, MOST_LINE, Progress};
+use recording::{MOST_LINE, Progress};
+use std::fs::File;
+use std::io;
 use std::io::{Read, Write};
-use text::Chosen;
 use window::{Refilled, Window};
 
 // The longest word that an argument is held against has fewer bytes.
@@ -29,67 +30,57 @@ const LARGE_BUFFER: usize = 65536;
 // CUT-6: how many bytes a link's buffer has: two of the longest packets, so that none is moved twice, and more, so that few are moved.
 const LINK_BUFFER: usize = 262144;
 
+// CUT-5: room for the list of callers, more bytes than the words of a command line fill.
+const LIST: usize = 2097152;
+
 // CUT-5: the places of our own id and of the first caller's among the arguments.
 const OURS: usize = 5;
 
 const FIRST_CALLER: usize = 6;
 
+// The most bytes of what is said of a word that is no id.
+const MOST_SAID: usize = 96;
+
 // More turns than any run takes.
 const MOST_TURNS: u64 = 0xFFFF_FFFF_FFFF_FFFE;
 
-// The open files of the two links, with their names.
+// An open file of a link, with its name.
+#[derive(Drop)]
+struct Recorded<'a, R> {
+    file: R,
+    name: &'a [u8],
+}
+
+// The files of the two links.
 #[derive(Drop)]
 struct Files<'a, R> {
-    normal: R,
-    redundant: R,
-    normal_name: &'a [u8],
-    redundant_name: &'a [u8],
+    normal: Recorded<'a, R>,
+    redundant: Recorded<'a, R>,
 }
 
-// The windows after they are topped up, and whether a file could not be read.
-#[derive(Drop)]
-struct Windows {
-    normal: Refilled,
-    redundant: Refilled,
-    failed: bool,
+// What the steps go by: the list of callers, our own id, and the state that they start from.
+#[derive(Clone, Copy)]
+struct Told<'a> {
+    callers: &'a [u8],
+    ours: u32,
+    state: State,
 }
 
-impl Windows {
-    // The first file could not be read, so that the second one was not.
-    fn first_failed(normal: Refilled, redundant: Window) -> Windows
-        ensures { result.failed ≡ true }
+impl<'a, R: Read> Recorded<'a, R> {
+    // Tops a window up for a step; fails where the file can't be read.
+    fn topped_up<E: Write>(
+        &mut self,
+        err: &mut E,
+        buffer: &mut [u8],
+        window: Window,
+    ) -> io::Result<Refilled>
+        requires { Within window (length buffer.old) × (most_packet ≤ length buffer.old) }
+        ensures { IfOk result (λ up. ToppedUp most_packet buffer.old window buffer.new up × Within up.window (length buffer.old)
+            × (low_of most_packet up.window ≡ false) × (failed_by up.last ≡ false)) }
     {
-        Windows {
-            normal,
-            redundant: Refilled::as_it_was(redundant),
-            failed: true,
-        }
-    }
-}
-
-// How far the cutting is after a turn, and whether a file could not be read or what the out buffer held not be written.
-#[derive(Drop)]
-struct Turned {
-    advanced: Advanced,
-    failed: bool,
-}
-
-// How many bytes of the list the callers' ids take, and whether each word was an id.
-#[derive(Drop)]
-struct Listed {
-    size: usize,
-    right: bool,
-}
-
-impl Turned {
-    // The cutting goes no further: something could not be read or written.
-    fn no_further(was: Advanced) -> Turned
-        ensures { result.failed ≡ true }
-    {
-        Turned {
-            advanced: was,
-            failed: true,
-        }
+        let up = window::topped_up(&mut self.file, err, self.name, buffer, window, MOST_PACKET);
+        up.last.got?;
+        Ok(up)
     }
 }
 
@@ -100,175 +91,110 @@ fn both_topped_up<R: Read, E: Write>(
     normal: &mut [u8],
     redundant: &mut [u8],
     p: Progress,
-) -> Windows
+) -> io::Result<(Refilled, Refilled)>
     requires lies { Lies p (length normal.old) (length redundant.old) }
     requires both_have_room { BothHaveRoom (length normal.old) (length redundant.old) }
-    ensures { result.failed ≡ false → BothToppedUp normal.old redundant.old p
-        normal.new redundant.new result.normal result.redundant
-        × Within result.normal.window (length normal.old) × Within result.redundant.window (length redundant.old) }
+    ensures { IfOk result (λ up. BothToppedUp normal.old redundant.old p normal.new redundant.new up.0 up.1
+        × Within up.0.window (length normal.old) × Within up.1.window (length redundant.old)) }
 {
-    let first = window::topped_up(
-        &mut files.normal,
-        err,
-        files.normal_name,
-        normal,
-        p.normal,
-        MOST_PACKET,
-    );
-    if first.failed {
-        return Windows::first_failed(first, p.redundant);
-    }
-    let second = window::topped_up(
-        &mut files.redundant,
-        err,
-        files.redundant_name,
-        redundant,
-        p.redundant,
-        MOST_PACKET,
-    );
-    Windows {
-        normal: first,
-        redundant: second,
-        failed: second.failed,
-    }
+    let first = files.normal.topped_up(err, normal, p.normal)?;
+    let second = files.redundant.topped_up(err, redundant, p.redundant)?;
+    Ok((first, second))
 }
 
-// Writes the rest of the text: with what was written before, it is what is printed for the bytes that were read of both files, by the list
-// of callers and our own id, from the state that the steps started with (recording's proofs/Turns). These three are here for the contract
-// alone. No contract can say what is read from a file or written to one: that the calls which read hand over a file's next bytes is all
-// that stands between the files and the printed text. What `make_room` and `written` write, their contracts say of a writer whose bytes
-// are known.
-fn finish<W: Write, E: Write>(
-    to: &mut W,
-    err: &mut E,
-    out: &[u8],
-    at: usize,
-    callers: &[u8],
-    ours: u32,
-    state: State,
-)
-    requires at_in_bounds { at ≤ length out.now }
-    requires printed_whole { PrintedWhole callers.now ours state out.now at }
+// Writes the rest of the text: with what was written before, it is what is printed for the bytes that were read of both files, by what the
+// steps go by (recording's proofs/Turns), which is here for the contract alone. No contract can say what is read from a file or written to
+// one: that the calls which read hand over a file's next bytes is all that stands between the files and the printed text. What `make_room`
+// and `written` write, their contracts say of a writer whose bytes are known.
+fn finish<W: Write, E: Write>(to: &mut W, err: &mut E, out: &[u8], told: Told) -> io::Result<()>
+    requires { PrintedWhole told.callers.now told.ours told.state out.now }
 {
-    text::written(to, err, out, at);
+    text::written(to, err, out)
 }
 
 // Puts the last line, and finishes.
-fn put_last<W: Write, E: Write>(
+fn put_last<W: Write, E: Write, const N: usize>(
     to: &mut W,
     err: &mut E,
-    out: &mut [u8],
-    was: Advanced,
-    callers: &[u8],
-    ours: u32,
-    state: State,
-)
-    requires next_in_bounds { (was.next ≤ length out.old) × (most_line ≤ length out.old) }
-    requires printed_to_the_end { PrintedToTheEnd callers.now ours state out.old was.next was.progress.handed_up }
+    out: &mut ArrayVec<u8, N>,
+    handed_up: u64,
+    told: Told,
+) -> io::Result<()>
+    requires most_line_in_bounds { most_line ≤ N }
+    requires printed_to_the_end { PrintedToTheEnd told.callers.now told.ours told.state out.old.items handed_up }
 {
-    let place = text::make_room(to, err, out, was.next, MOST_LINE);
-    if place.failed {
-        return;
-    }
-    let end = text::put_end(out, place.at, was.progress.handed_up);
-    finish(to, err, out, end, callers, ours, state);
+    text::make_room(to, err, out, MOST_LINE)?;
+    text::put_end(out, handed_up);
+    finish(to, err, out.as_slice(), told)
 }
 
-// One turn: room for a line, the windows topped up, and a step with its line. CUT-6: refills move no more bytes than they read.
-fn turn<R: Read, W: Write, E: Write>(
+// One turn: room for a line, the windows topped up, and a step with its line. CUT-6: refills move no more bytes than they read. It fails
+// where a file could not be read, or what the out buffer held not be written, which is said by then.
+fn turn<R: Read, W: Write, E: Write, const N: usize>(
     files: &mut Files<R>,
     to: &mut W,
     err: &mut E,
     normal: &mut [u8],
     redundant: &mut [u8],
-    out: &mut [u8],
-    callers: &[u8],
-    ours: u32,
-    was: Advanced,
-) -> Turned
-    requires lies { Lies was.progress (length normal.old) (length redundant.old) }
+    out: &mut ArrayVec<u8, N>,
+    told: Told,
+    p: Progress,
+) -> io::Result<Progress>
+    requires lies { Lies p (length normal.old) (length redundant.old) }
     requires both_have_room { BothHaveRoom (length normal.old) (length redundant.old) }
-    requires next_in_bounds { (was.next ≤ length out.old) × (most_line ≤ length out.old) }
-    requires handed_up_bound { was.progress.handed_up + 1 < 2 ^ 64 }
-    requires both_moved_no_more { BothMovedNoMore was.progress (length normal.old) (length redundant.old) }
-    ensures { result.failed ≡ false → TurnOf normal.old redundant.old callers.now ours was.progress
-        out.old was.next normal.new redundant.new out.new result.advanced
-        × Lies result.advanced.progress (length normal.old) (length redundant.old)
-        × (result.advanced.next ≤ length out.old) × (result.advanced.progress.handed_up ≤ was.progress.handed_up + 1)
-        × BothMovedNoMore result.advanced.progress (length normal.old) (length redundant.old) }
+    requires most_line_in_bounds { most_line ≤ N }
+    requires handed_up_bound { p.handed_up + 1 < 2 ^ 64 }
+    requires both_moved_no_more { BothMovedNoMore p (length normal.old) (length redundant.old) }
+    ensures { IfOk result (λ after. TurnOf normal.old redundant.old told.entry.callers.now told.entry.ours p
+        N out.old.items normal.new redundant.new out.new.items after
+        × Lies after (length normal.old) (length redundant.old) × (after.handed_up ≤ p.handed_up + 1)
+        × BothMovedNoMore after (length normal.old) (length redundant.old)) }
 {
-    let place = text::make_room(to, err, out, was.next, MOST_LINE);
-    if place.failed {
-        return Turned::no_further(was);
-    }
-    let p = was.progress;
-    let windows = both_topped_up(files, err, normal, redundant, p);
-    if windows.failed {
-        return Turned::no_further(was);
-    }
-    let first = windows.normal;
-    let second = windows.redundant;
+    text::make_room(to, err, out, MOST_LINE)?;
+    let (first, second) = both_topped_up(files, err, normal, redundant, p)?;
     let lent = p.windowed(first.window, second.window);
-    Turned {
-        advanced: recording::advance(normal, redundant, out, place.at, callers, ours, lent),
-        failed: false,
-    }
+    Ok(recording::advance(normal, redundant, out, told.callers, told.ours, lent))
 }
 
 // Turns until a step answers 301 or 308, then the last line. A proved loop has to end, and nothing says that a file does, so the loop
-// counts its turns down, from a number that no run uses up.
-fn cut_links<R: Read, W: Write, E: Write>(
+// takes no more turns than a number that no run uses up.
+fn cut_links<R: Read, W: Write, E: Write, const N: usize>(
     files: &mut Files<R>,
     to: &mut W,
     err: &mut E,
     normal: &mut [u8],
     redundant: &mut [u8],
-    out: &mut [u8],
-    next: usize,
-    callers: &[u8],
-    ours: u32,
-    state: State,
-)
-    requires { Headed normal.old redundant.old out.old next }
+    out: &mut ArrayVec<u8, N>,
+    told: Told,
+) -> io::Result<()>
+    requires { Headed normal.old redundant.old N out.old.items }
 {
-    let progress = Progress::start(state);
-    let mut advanced = Advanced { progress, next };
-    let mut turns = MOST_TURNS;
-    while turns > 0 {
-        let turned = turn(
-            files, to, err, normal, redundant, out, callers, ours, advanced,
-        );
-        if turned.failed {
-            return;
+    let mut progress = Progress::start(told.state);
+    for _ in 0..MOST_TURNS {
+        progress = turn(files, to, err, normal, redundant, out, told, progress)?;
+        if progress.last {
+            return put_last(to, err, out, progress.handed_up, told);
         }
-        advanced = turned.advanced;
-        if advanced.progress.last {
-            put_last(to, err, out, advanced, callers, ours, state);
-            return;
-        }
-        turns -= 1;
     }
+    Ok(())
 }
 
 // The heading, then the turns.
-fn print_all<R: Read, W: Write, E: Write>(
+fn print_all<R: Read, W: Write, E: Write, const N: usize>(
     files: &mut Files<R>,
     to: &mut W,
     err: &mut E,
     normal: &mut [u8],
     redundant: &mut [u8],
-    out: &mut [u8],
-    callers: &[u8],
-    ours: u32,
-    state: State,
-)
+    out: &mut ArrayVec<u8, N>,
+    told: Told,
+) -> io::Result<()>
     requires both_have_room { BothHaveRoom (length normal.old) (length redundant.old) }
-    requires most_line_in_bounds { most_line ≤ length out.old }
+    requires most_line_in_bounds { most_line ≤ N }
+    requires none_held { out.old.items ≡ [] }
 {
-    let at = recording::put_heading(out, 0);
-    cut_links(
-        files, to, err, normal, redundant, out, at, callers, ours, state,
-    );
+    recording::put_heading(out);
+    cut_links(files, to, err, normal, redundant, out, told)
 }
 
 // CUT-6: a link's buffer. The first `ensures` gives the length, which lending it asks for.
@@ -279,58 +205,55 @@ fn link_buffer() -> [u8; LINK_BUFFER]
     [0; LINK_BUFFER]
 }
 
-// The buffers of two open files.
-fn cut_files<R: Read>(
-    rt: &HostRuntime,
-    files: &mut Files<R>,
-    callers: &[u8],
-    ours: u32,
-    state: State,
-) {
+// The buffers of two open files. What fails is said where it does.
+fn cut_files<R: Read>(rt: &HostRuntime, files: &mut Files<R>, told: Told) {
     let mut normal = link_buffer();
     let mut redundant = link_buffer();
-    let mut out = [0u8; LARGE_BUFFER];
+    let mut out = ArrayVec::<u8, LARGE_BUFFER>::new();
     let mut to = rt.stdout();
     let mut err = rt.stderr();
-    print_all(
+    let _ = print_all(
         files,
         &mut to,
         &mut err,
         &mut normal,
         &mut redundant,
         &mut out,
-        callers,
-        ours,
-        state,
+        told,
     );
 }
 
-// Opens both files and cuts them.
-fn cut_named(rt: &HostRuntime, callers: &[u8], ours: u32, state: State) {
+// Opens the file that an argument names; or says why it can't, by the name or by the word that stands for it.
+fn opened<'a>(
+    rt: &HostRuntime,
+    i: usize,
+    room: &'a mut [u8],
+    word: &[u8],
+) -> Option<Recorded<'a, File>> {
+    let name = text::arg(rt, i, room);
     let mut err = rt.stderr();
-    let mut normal_room = [0u8; MOST_NAME];
-    let normal_name = text::arg(rt, 3, &mut normal_room);
-    let Some(normal) = window::open_file(rt, &mut err, normal_name, b"NORMAL") else {
-        return;
-    };
-    let mut redundant_room = [0u8; MOST_NAME];
-    let redundant_name = text::arg(rt, 4, &mut redundant_room);
-    let Some(redundant) = window::open_file(rt, &mut err, redundant_name, b"REDUNDANT") else {
-        return;
-    };
-    let mut files = Files {
-        normal,
-        redundant,
-        normal_name: normal_name.unwrap_or(b""),
-        redundant_name: redundant_name.unwrap_or(b""),
-    };
-    cut_files(rt, &mut files, callers, ours, state);
+    let file = window::open_file(rt, &mut err, name, word)?;
+    Some(Recorded {
+        file,
+        name: name.unwrap_or(b""),
+    })
 }
 
-// Which of two words an argument is. A longer one is neither.
-fn chosen(rt: &HostRuntime, i: usize, first: &[u8], second: &[u8]) -> Chosen {
+// Opens both files and cuts them.
+fn cut_named(rt: &HostRuntime, told: Told) -> Option<()> {
+    let mut normal_room = [0u8; MOST_NAME];
+    let normal = opened(rt, 3, &mut normal_room, b"NORMAL")?;
+    let mut redundant_room = [0u8; MOST_NAME];
+    let redundant = opened(rt, 4, &mut redundant_room, b"REDUNDANT")?;
+    let mut files = Files { normal, redundant };
+    cut_files(rt, &mut files, told);
+    Some(())
+}
+
+// What an argument stands for, in a list of words. A longer one than any is none of them.
+fn chosen(rt: &HostRuntime, i: usize, words: &[(&[u8], bool)]) -> Option<bool> {
     let mut room = [0u8; MOST_WORD];
-    text::chosen_of(text::arg(rt, i, &mut room).unwrap_or(b""), first, second)
+    text::chosen_of(text::arg(rt, i, &mut room).unwrap_or(b""), words)
 }
 
 // Says a line on standard error.
@@ -347,103 +270,99 @@ fn usage(rt: &HostRuntime) {
     );
 }
 
-// CUT-5: the id that an argument says. One that is missing or longer than the word's buffer is read as empty, which is no id.
-fn id_at(rt: &HostRuntime, i: usize) -> Id {
-    let mut room = [0u8; MOST_WORD];
-    recording::id_of(text::arg(rt, i, &mut room).unwrap_or(b""))
-}
-
 // One line that says which argument is no id.
 fn say_no_id(rt: &HostRuntime, i: usize) {
-    let mut number = [0u8; text::MOST_DIGITS];
-    let size = text::put_decimal(&mut number, 0, i as u64);
-    say(rt, b"cut: argument ");
-    say(rt, &number[..size]);
-    say(rt, b" is no id of eight hexadecimal digits\n");
+    let mut line = ArrayVec::<u8, MOST_SAID>::new();
+    text::put(&mut line, b"cut: argument ");
+    text::put_decimal(&mut line, i as u64);
+    text::put(&mut line, b" is no id of eight hexadecimal digits\n");
+    say(rt, line.as_slice());
 }
 
-// Room for the list: more bytes than the words of a command line fill. The `ensures` gives the length, which lending it asks for.
-fn empty_list() -> [u8; 2097152]
-    ensures { 2097152 ≡ length result }
-{
-    [0; 2097152]
+// CUT-5: the id that an argument says. One that is missing or longer than the word's buffer is read as empty, which is no id; that it is
+// none is said.
+fn id_at(rt: &HostRuntime, i: usize) -> Option<u32> {
+    let mut room = [0u8; MOST_WORD];
+    let id = recording::id_of(text::arg(rt, i, &mut room).unwrap_or(b""));
+    if id.is_none() {
+        say_no_id(rt, i);
+    }
+    id
 }
 
-// CUT-5: the callers' ids, one behind the other, at the front of a list.
-fn read_callers(rt: &HostRuntime, list: &mut [u8]) -> Listed
-    ensures { result.size ≤ length list.old }
-{
-    let count = text::arg_count(rt);
-    let mut size: usize = 0;
-    let mut i = FIRST_CALLER;
-    while i < count {
-        let id = id_at(rt, i);
-        if !id.right {
-            say_no_id(rt, i);
-            return Listed { size, right: false };
-        }
-        if list.len() - size < ID_SIZE {
+// CUT-5: the callers' ids, one behind the other, put behind a list; or says what is wrong with one.
+fn read_callers<const N: usize>(rt: &HostRuntime, list: &mut ArrayVec<u8, N>) -> Option<()> {
+    for i in FIRST_CALLER..text::arg_count(rt) {
+        let id = id_at(rt, i)?;
+        if list.try_extend_from_slice(&id.to_be_bytes()).is_err() {
             say(
                 rt,
                 b"cut: there are more callers than the list has room for\n",
             );
-            return Listed { size, right: false };
+            return None;
         }
-        field::write(list, size, ID_SIZE, id.id);
-        size += ID_SIZE;
-        i += 1;
     }
-    Listed { size, right: true }
+    Some(())
 }
 
 // Cuts as a responder, who is told our own id and who may call.
-fn cut_called(rt: &HostRuntime, list: &mut [u8], state: State) {
-    let ours = id_at(rt, OURS);
-    if !ours.right {
-        say_no_id(rt, OURS);
-        return;
-    }
-    let listed = read_callers(rt, list);
-    let size = listed.size;
-    if listed.right {
-        cut_named(rt, &list[..size], ours.id, state);
-    }
+fn cut_called(rt: &HostRuntime, state: State) -> Option<()> {
+    let ours = id_at(rt, OURS)?;
+    let mut list = ArrayVec::<u8, LIST>::new();
+    read_callers(rt, &mut list)?;
+    let told = Told {
+        callers: list.as_slice(),
+        ours,
+        state,
+    };
+    cut_named(rt, told)
 }
 
 // Whether so many arguments, the program's name among them, are those of the role: CUT-5.
 fn right_count(responder: bool, count: usize) -> bool {
     if responder {
-        return OURS < count;
+        OURS < count
+    } else {
+        count == OURS
     }
-    count == OURS
+}
+
+// The state that the steps start from, by the role and the setting that the arguments choose; none where they are not right.
+fn chosen_state(rt: &HostRuntime) -> Option<State> {
+    let responder = chosen(
+        rt,
+        1,
+        &[
+            (b"responder".as_slice(), true),
+            (b"initiator".as_slice(), false),
+        ],
+    )?;
+    let strict = chosen(
+        rt,
+        2,
+        &[(b"strict".as_slice(), true), (b"loose".as_slice(), false)],
+    )?;
+    if right_count(responder, text::arg_count(rt)) {
+        Some(links::fresh_state(responder, strict))
+    } else {
+        None
+    }
 }
 
 fn main(rt: HostRuntime) {
-    let responder = match chosen(&rt, 1, b"responder", b"initiator") {
-        Chosen::First => true,
-        Chosen::Second => false,
-        Chosen::Neither => {
-            usage(&rt);
-            return;
-        }
-    };
-    let strict = match chosen(&rt, 2, b"strict", b"loose") {
-        Chosen::First => true,
-        Chosen::Second => false,
-        Chosen::Neither => {
-            usage(&rt);
-            return;
-        }
-    };
-    if !right_count(responder, text::arg_count(&rt)) {
+    let Some(state) = chosen_state(&rt) else {
         usage(&rt);
         return;
-    }
-    let state = links::fresh_state(responder, strict);
-    if !responder {
-        cut_named(&rt, b"", 0, state);
-        return;
-    }
-    let mut list = empty_list();
-    cut_called(&rt, &mut list, state);
+    };
+    // What keeps it from cutting is said by then.
+    let _ = if state.responder {
+        cut_called(&rt, state)
+    } else {
+        let told = Told {
+            callers: b"",
+            ours: 0,
+            state,
+        };
+        cut_named(&rt, told)
+    };
 }

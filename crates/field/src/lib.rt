@@ -1,9 +1,67 @@
 // Big-endian fields of w bytes in a slice: read and written, once over the width.
 #![tactic(auto)]
 
-ghost use Rattle.std.specs.Prelude.{◌≡◌, ◌+◌, ◌^◌, ◌<◌, ◌≤◌, length};
+ghost use Rattle.std.specs.Prelude.{◌≡◌, ℕ, ◌+◌, ◌^◌, ◌<◌, ◌≤◌, length};
 ghost use Rattle.std.proofs.lemmas.List.Edits.{sets};
+ghost use Rattle.std.proofs.Common.{rules};
 ghost use Rattle.field.specs.Field.{field_of, bytes_of};
+
+// A type that holds the number of a field: as wide as the field is.
+pub trait Wide {
+    const WIDTH: usize;
+
+    ghost WIDTH: { ℕ };
+
+    ghost number: { Self → ℕ };
+
+    fn of_number(x: u32) -> Self
+        requires { x < 256 ^ WIDTH }
+        ensures { number result ≡ x };
+
+    ghost at_most_4: { WIDTH ≤ 4 };
+}
+
+impl Wide for u8 {
+    const WIDTH: usize = 1;
+
+    ghost WIDTH = { 1 };
+
+    ghost number = { λ x. x };
+
+    ghost at_most_4 = { Prim.search rules };
+
+    fn of_number(x: u32) -> u8 {
+        x as u8
+    }
+}
+
+impl Wide for u16 {
+    const WIDTH: usize = 2;
+
+    ghost WIDTH = { 2 };
+
+    ghost number = { λ x. x };
+
+    ghost at_most_4 = { Prim.search rules };
+
+    fn of_number(x: u32) -> u16 {
+        x as u16
+    }
+}
+
+impl Wide for u32 {
+    const WIDTH: usize = 4;
+
+    ghost WIDTH = { 4 };
+
+    ghost number = { λ x. x };
+
+    ghost at_most_4 = { Prim.search rules };
+
+    fn of_number(x: u32) -> u32 {
+        x
+    }
+}
 
 // The number in the w bytes of s from at.
 pub fn read(s: &[u8], at: usize, w: usize) -> u32
@@ -11,46 +69,31 @@ pub fn read(s: &[u8], at: usize, w: usize) -> u32
     ensures { (result ≡ field_of s.now at w) × (result < 256 ^ w) }
 {
     let mut r: u32 = 0;
-    let mut i: usize = 0;
-    while i < w {
-        r = r * 256 + s[at + i] as u32;
-        i += 1;
+    for byte in &s[at..at + w] {
+        r = r * 256 + u32::from(*byte);
     }
     r
 }
 
-pub fn read8(s: &[u8], at: usize) -> u8
-    requires { at + 1 ≤ length s.now }
-    ensures { result ≡ field_of s.now at 1 }
+// The number in as many bytes of s, from at, as the type asks for.
+pub fn number_at<N: Wide>(s: &[u8], at: usize) -> N
+    requires { at + N.WIDTH ≤ length s.now }
+    ensures { N.number result ≡ field_of s.now at N.WIDTH }
 {
-    read(s, at, 1) as u8
+    N::of_number(read(s, at, N::WIDTH))
 }
 
-pub fn read16(s: &[u8], at: usize) -> u16
-    requires { at + 2 ≤ length s.now }
-    ensures { result ≡ field_of s.now at 2 }
-{
-    read(s, at, 2) as u16
-}
-
-pub fn read32(s: &[u8], at: usize) -> u32
-    requires { at + 4 ≤ length s.now }
-    ensures { result ≡ field_of s.now at 4 }
-{
-    read(s, at, 4)
-}
+// Stays: a slice and a place in it: the clauses of `write` and `copy` speak of the whole slice (`sets`), what is beside the field too.
 
 // The w bytes of x, from at; of a larger x its last w bytes.
 pub fn write(out: &mut [u8], at: usize, w: usize, x: u32)
     requires { at + w ≤ length out.old }
     ensures { out.new ≡ sets out.old at (bytes_of w x) }
 {
-    let mut left: u32 = x;
-    let mut i: usize = w;
-    while 0 < i {
-        i -= 1;
+    let mut left = x;
+    for i in (0..w).rev() {
         out[at + i] = (left % 256) as u8;
-        left = left / 256;
+        left /= 256;
     }
 }
 
@@ -59,9 +102,5 @@ pub fn copy(out: &mut [u8], at: usize, s: &[u8])
     requires { at + length s.now ≤ length out.old }
     ensures { out.new ≡ sets out.old at s.now }
 {
-    let mut i: usize = 0;
-    while i < s.len() {
-        out[at + i] = s[i];
-        i += 1;
-    }
+    out[at..at + s.len()].copy_from_slice(s);
 }

@@ -1,9 +1,9 @@
--- A table that is the first part of an array.
+-- A table that is the first part of a slice of records.
 use Rattle.std.specs.Prelude.{ℕ, List, ◌++◌}
 use Rattle.connection.specs.declared.Connection.{Connection}
 use Rattle.table.specs.Table.{LeftAt, leaves_at}
 
--- TABLE-1: the records of the array, one more than a table has at most
+-- TABLE-1: the records of a program, one more than a table has at most
 abbrev pub records : ℕ
 records = 65
 

@@ -1,12 +1,12 @@
 // One packet that is written, and its line: the answer, and the bytes written.
 // A packet in the file: link 1 (1 normal, 0 redundant), version 1, application type 1, number 2, packet type 1, room 2 (the out buffer's
 // length), size 2, user data.
-ghost use Rattle.std.specs.Prelude.{◌≡◌, ◌≤◌, length};
+ghost use Rattle.std.specs.Prelude.{◌≡◌, ◌+◌, ◌≤◌, length, IfSome};
 ghost use Rattle.field.specs.Row.{fields_of};
 ghost use Rattle.link_lines.specs.Packet.{packet_given_widths, packet_fields_size, packet_from, most_packet_room, most_packet_text};
 
+use arrayvec::ArrayVec;
 use packet_writing::Written;
-use text::Done;
 
 // The bytes of the fields before the user data.
 const FIELDS_SIZE: usize = 10;
@@ -15,6 +15,7 @@ const FIELDS_SIZE: usize = 10;
 const MOST_ROOM: usize = 65535;
 
 // The fields of a packet in the file.
+// Stays: the type as it stands in the file, any byte, for `packet_writing::write` to judge.
 #[derive(Clone, Copy)]
 struct Packet {
     link: u8,
@@ -32,23 +33,22 @@ fn packet_from(s: &[u8]) -> Packet
     ensures { result ≡ packet_from (fields_of packet_given_widths s.now 0) }
 {
     Packet {
-        link: field::read8(s, 0),
-        version: field::read8(s, 1),
-        application: field::read8(s, 2),
-        number: field::read16(s, 3),
-        kind: field::read8(s, 5),
-        room: field::read16(s, 6),
-        size: field::read16(s, 8),
+        link: field::number_at(s, 0),
+        version: field::number_at(s, 1),
+        application: field::number_at(s, 2),
+        number: field::number_at(s, 3),
+        kind: field::number_at(s, 5),
+        room: field::number_at(s, 6),
+        size: field::number_at(s, 8),
     }
 }
 
 impl Packet {
     // The packet with this user data, written to a lent buffer.
     fn write(self, data: &[u8], lent: &mut [u8]) -> Written {
-        let normal = self.link == 1;
         packet_writing::write(
             lent,
-            normal,
+            self.link == 1,
             self.version,
             self.application,
             self.number,
@@ -59,33 +59,31 @@ impl Packet {
 }
 
 // That packet, and its line.
-fn put_packet(out: &mut [u8], given: Packet, data: &[u8], lent: &mut [u8]) -> usize
-    requires { (length lent.old ≤ most_packet_room) × (most_packet_text ≤ length out.old) }
-    ensures { result ≤ most_packet_text }
+fn put_packet<const N: usize>(
+    out: &mut ArrayVec<u8, N>,
+    given: Packet,
+    data: &[u8],
+    lent: &mut [u8],
+)
+    requires { (length lent.old ≤ most_packet_room) × (length out.old.items + most_packet_text ≤ N) }
+    ensures { length out.new.items ≤ length out.old.items + most_packet_text }
 {
     let made = given.write(data, lent);
-    let after_answer = text::put_decimal(out, 0, made.answer as u64);
-    let after_written = text::put_written(out, after_answer, lent, made.written);
-    text::put(out, after_written, b"\n")
+    text::put_decimal(out, u64::from(made.answer));
+    text::put_written(out, lent, made.written);
+    text::put(out, b"\n");
 }
 
-// The packet at the front of s, if it is there whole.
-pub fn packet_at(s: &[u8], out: &mut [u8]) -> Done
-    requires { most_packet_text ≤ length out.old }
-    ensures { (result.next ≤ most_packet_text) × (result.used ≤ length s.now) }
+// The packet at the front of s, if it is there whole, and how many bytes it takes.
+pub fn packet_at<const N: usize>(s: &[u8], out: &mut ArrayVec<u8, N>) -> Option<usize>
+    requires { length out.old.items + most_packet_text ≤ N }
+    ensures text { length out.new.items ≤ length out.old.items + most_packet_text }
+    ensures used { IfSome result (λ used. used ≤ length s.now) }
 {
-    if s.len() < FIELDS_SIZE {
-        return Done::not_whole();
-    }
-    let given = packet_from(s);
-    let room = given.room as usize;
-    let end = FIELDS_SIZE + given.size as usize;
-    if s.len() < end {
-        return Done::not_whole();
-    }
+    let (fields, rest) = s.split_at_checked(FIELDS_SIZE)?;
+    let given = packet_from(fields);
+    let data = rest.get(..usize::from(given.size))?;
     let mut lent = [text::BEFORE; MOST_ROOM];
-    Done {
-        next: put_packet(out, given, &s[FIELDS_SIZE..end], &mut lent[0..room]),
-        used: end,
-    }
+    put_packet(out, given, data, &mut lent[..usize::from(given.room)]);
+    Some(FIELDS_SIZE + data.len())
 }

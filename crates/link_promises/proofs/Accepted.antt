@@ -41,20 +41,17 @@ right_length link s at p = simp (le-ltb (length_at s at) least_length p.least, l
 -- ---- the loose setting
 
 -- data and release are in class D and open nothing
-data_or_release : (kind : ℕ) → (kind ≡ data_packet) ⊎ (kind ≡ release_packet) → (in_class_d kind ≡ true) × (opens kind ≡ false)
+pub data_or_release : (kind : ℕ) → (kind ≡ data_packet) ⊎ (kind ≡ release_packet) → (in_class_d kind ≡ true) × (opens kind ≡ false)
 unfolding in_class_d classes_of opens
 data_or_release kind =
     ⊎_elim (λ e. subst (λ (k : ℕ). (in_class_d k ≡ true) × (opens k ≡ false)) (sym e) (refl, refl))
     (λ e. subst (λ (k : ℕ). (in_class_d k ≡ true) × (opens k ≡ false)) (sym e) (refl, refl))
 
-in_time : (kind d : ℕ) → opens kind ≡ false → 1 ≤ d → d < behind_from → not_later kind d ≡ false
+pub in_time : (kind d : ℕ) → opens kind ≡ false → 1 ≤ d → d < behind_from → not_later kind d ≡ false
 unfolding not_later
-in_time kind d o l h = simp (o, ne_eqb d 0 (λ (z : d ≡ 0). zero_not d l z), lt-leb behind_from d h)
-  where
-    zero_not : (d : ℕ) → 1 ≤ d → d ≡ 0 → ⊥
-    zero_not d l z = omega arith
+in_time kind d o l h = simp (o, ne_eqb d 0 (λ (z : d ≡ 0). omega arith), lt-leb behind_from d h)
 
-never_too_far : (strict : Bool) (d : ℕ) → strict ≡ false → too_far strict d ≡ false
+pub never_too_far : (strict : Bool) (d : ℕ) → strict ≡ false → too_far strict d ≡ false
 unfolding too_far
 never_too_far strict d e = simp e
 

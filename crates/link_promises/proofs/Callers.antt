@@ -2,7 +2,8 @@
 -- Assumes nothing.
 use Prim.Native.Nat.{ℕ, zero, suc, ◌+◌, ◌*◌, ◌/◌, ◌<◌}
 use mathlib.Core.Path.{◌≡◌, refl, sym, ap, ap₂, ◌∙◌, subst}
-use mathlib.Core.Bool.{Bool, true, false, not, ◌&&◌, ◌||◌, false≢true}
+use mathlib.Core.Bool.{Bool, true, false, not, ◌&&◌, ◌||◌, false≢true, and-false, or_assoc}
+use Rattle.std.proofs.lemmas.Bool.Decides.{same_from_decides}
 use mathlib.Core.List.Memᴰ
 use mathlib.Core.List.{List, [], ◌∷◌, ◌++◌, Memᴰ}
 use mathlib.Core.Logic.{⊎_elim}
@@ -53,26 +54,17 @@ in_one id (one ∷ others) m =
     by true e = refl
     by false e = e
 
--- two tests of which each holds where the other does agree
-agree : (a b : Bool) → (a ≡ true → b ≡ true) → (b ≡ true → a ≡ true) → a ≡ b
-agree true b f g = sym (f refl)
-agree false true f g = g refl
-agree false false f g = refl
-
 same_listed : (callers callers' : List ℕ) → SameIds callers callers' → (id : ℕ) → listed id callers ≡ listed id callers'
 unfolding listed
 same_listed callers callers' same id =
-    agree (is_one_of id (callers_of callers)) (is_one_of id (callers_of callers'))
-    (λ e. in_one id (callers_of callers') ((same id).0 (one_in id (callers_of callers) e)))
-    (λ e. in_one id (callers_of callers) ((same id).1 (one_in id (callers_of callers') e)))
+    same_from_decides {P = Memᴰ id (callers_of callers)} (is_one_of id (callers_of callers)) (is_one_of id (callers_of callers'))
+    (one_in id (callers_of callers), in_one id (callers_of callers))
+    (λ e. (same id).1 (one_in id (callers_of callers') e), λ m. in_one id (callers_of callers') ((same id).0 m))
 
 one_of_both : (id : ℕ) (ids others : List ℕ) → is_one_of id (ids ++ others) ≡ (is_one_of id ids || is_one_of id others)
 one_of_both id [] others = refl
-one_of_both id (one ∷ ids) others = ap (λ (b : Bool). eqb one id || b) (one_of_both id ids others) ∙ grouped (eqb one id) (is_one_of id ids) (is_one_of id others)
-  where
-    grouped : (a b c : Bool) → (a || (b || c)) ≡ ((a || b) || c)
-    grouped true b c = refl
-    grouped false b c = refl
+one_of_both id (one ∷ ids) others =
+    ap (λ (b : Bool). eqb one id || b) (one_of_both id ids others) ∙ sym (or_assoc (eqb one id) (is_one_of id ids) (is_one_of id others))
 
 -- what is one of a list with two entries
 one_of_parts : (id : ℕ) (before between behind : List ℕ) (one other : ℕ)
@@ -162,17 +154,7 @@ pub others_not_judged : OthersNotJudged
 others_not_judged callers callers' ours ours' state other =
     same_rows callers ours callers' ours' state
     (λ user_data.
-    ⊎_elim (λ e. initiator state.first state.responder e (not_allowed callers ours user_data) (not_allowed callers' ours' user_data))
-    (λ e. later state.first state.responder e (not_allowed callers ours user_data) (not_allowed callers' ours' user_data)) other)
-  where
-    initiator : (first responder : Bool) → responder ≡ false → (a b : Bool) → (first && responder && a) ≡ (first && responder && b)
-    initiator true true e a b = absurd (false≢true (sym e))
-    initiator true false e a b = refl
-    initiator false responder e a b = refl
-
-    later : (first responder : Bool) → first ≡ false → (a b : Bool) → (first && responder && a) ≡ (first && responder && b)
-    later true responder e a b = absurd (false≢true (sym e))
-    later false responder e a b = refl
+    ⊎_elim (λ (initiator : state.responder ≡ false). simp (initiator, and-false)) (λ (later : state.first ≡ false). simp later) other)
 
 -- ---- steps one after the other
 

@@ -1,4 +1,4 @@
--- What judgeable of a step by its rows: whatever judgeable of the four things that may follow judgeable of the step.
+-- What holds of a step by its rows: whatever holds of the four things that may follow holds of the step.
 -- Assumes nothing.
 use Prim.Native.Nat.{ℕ, zero, suc, ◌≤◌, ◌<◌}
 use mathlib.Core.Path.{◌≡◌, refl}
@@ -18,7 +18,8 @@ use Rattle.links.specs.Taken.{nothing_changes, link_down, dropped, handed_up}
 use Rattle.links.specs.Callers.{not_allowed}
 use Rattle.links.specs.Table.{length_at, length_fault, judgeable, both_down, not_opening, not_later, too_far, link_rows, class_d_rows, rows_of, taken_of}
 use Rattle.link_promises.specs.Promises.{link_answers, of_link}
-use Rattle.links.proofs.Bools.{both_true, by_row, second_false, third_false, not_of_false}
+use Rattle.std.proofs.lemmas.Bool.{not_from_false}
+use Rattle.links.proofs.Bools.{both_true, by_row, second_false, third_false}
 use Rattle.links.proofs.Judged.{length_right, all_there}
 
 -- why a packet of a link is handed up
@@ -66,8 +67,8 @@ module _ (normal : Bool) (s : List ℕ) (at : ℕ) (callers : List ℕ) (ours : 
         of_class_d = not-false _ e₁;
         opening = λ f. second_false _ _ e₂ f;
         allowed = λ f r. third_false _ _ _ e₃ f r;
-        later = λ f. second_false _ _ e₄ (not_of_false _ f);
-        near = λ f. second_false _ _ e₅ (not_of_false _ f);
+        later = λ f. second_false _ _ e₄ (not_from_false _ f);
+        near = λ f. second_false _ _ e₅ (not_from_false _ f);
       }))))))
 
   pub by_rows : (found : Bool) → (found ≡ true → judgeable s at ≡ true) → P (rows_of found normal s at callers ours state)

@@ -1,4 +1,4 @@
--- What is promised of every step, besides its table: each promise judgeable of the four things that may follow (proofs/Outcome).
+-- What is promised of every step, besides its table: each promise holds of the four things that may follow (proofs/Outcome).
 -- Assumes nothing.
 use Prim.Native.Nat.{ℕ, ◌+◌, ◌-◌, ◌≤◌}
 use mathlib.Core.Path.{◌≡◌, refl, ap, ◌∙◌}

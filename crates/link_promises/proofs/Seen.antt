@@ -1,14 +1,15 @@
 -- What a step sees of a link: where two links' bytes agree in the most bytes of a packet from their places, all that is judged there agrees.
 -- Assumes nothing.
-use Prim.Native.Nat.{ℕ, zero, suc, ◌+◌, ◌-◌, ◌≤◌, ◌<◌, min}
+use Prim.Native.Nat.{ℕ, ◌+◌, ◌-◌, ◌≤◌, ◌<◌, min}
 use mathlib.Core.Path.{◌≡◌, refl, sym, ap, ap₂, ◌∙◌}
 use mathlib.Core.Bool.{Bool, true, false, ◌&&◌, ◌||◌}
-use mathlib.Core.List.{List, [], ◌∷◌}
+use mathlib.Core.List.{List}
 use native.Mathlib.Omega.{arith}
-use borrow.Author.Tests.{le-leb, lt-leb, leb-true, leb-false}
 use lib.Dec.{leb}
 use lib.ListN.{length, take, drop, get_or, length-take, length-drop}
 use lib.Seq.{get_or-take, get_or-drop, take-take, drop-drop}
+use Rattle.std.proofs.lemmas.Bool.Decides.{nat_tests}
+use Rattle.std.proofs.lemmas.List.{drop-take}
 use Rattle.field.specs.Field.{field_of}
 use Rattle.field.proofs.Field.{field_same}
 use Rattle.packet.specs.Sizes.{length_size, packet_header_size, least_length, most_packet, checked_bytes}
@@ -23,23 +24,20 @@ byte_seen : (s : List ℕ) (at i : ℕ) → i < most_packet → get_or (seen_fro
 byte_seen s at i h = get_or-take most_packet (drop at s) i 0 h ∙ get_or-drop at s i 0
 
 room_seen : (s : List ℕ) (at k : ℕ) → 0 < k → k ≤ most_packet → leb (at + k) (length s) ≡ leb k (length (seen_from s at))
-room_seen s at k p h = go (leb k (length (seen_from s at))) refl
+room_seen s at k p h =
+    let size : length (seen_from s at) ≡ min most_packet (length s - at) = length-take most_packet (drop at s) ∙ ap (min most_packet) (length-drop at s) in
+    room (length s) (length (seen_from s at)) size
   where
-    size : length (seen_from s at) ≡ min most_packet (length s - at)
-    size = length-take most_packet (drop at s) ∙ ap (min most_packet) (length-drop at s)
-
-    go : (b : Bool) → leb k (length (seen_from s at)) ≡ b → leb (at + k) (length s) ≡ b
-    go true e = le-leb (at + k) (length s) (omega (arith, size, leb-true k (length (seen_from s at)) e))
-    go false e = lt-leb (at + k) (length s) (omega (arith, size, leb-false k (length (seen_from s at)) e))
-
-part_within : (k m n : ℕ) (l : List ℕ) → k + n ≤ m → take n (drop k (take m l)) ≡ take n (drop k l)
-part_within zero m n l h = take-take n m l (omega arith)
-part_within (suc k) zero n l h = let none : ⊥ = omega arith in absurd none
-part_within (suc k) (suc m) n [] h = refl
-part_within (suc k) (suc m) n (x ∷ l) h = part_within k m n l (omega arith)
+    room : (all seen : ℕ) → seen ≡ min most_packet (all - at) → leb (at + k) all ≡ leb k seen
+    room all seen e = grind (arith, nat_tests)
 
 part_seen : (s : List ℕ) (at k n : ℕ) → k + n ≤ most_packet → take n (drop k (seen_from s at)) ≡ take n (drop (at + k) s)
-part_seen s at k n h = part_within k most_packet n (drop at s) h ∙ ap (take n) (drop-drop k at s)
+part_seen s at k n h =
+    let most : most_packet ≡ k + (most_packet - k) = omega arith in
+    ap (λ (m : ℕ). take n (drop k (take m (drop at s)))) most
+    ∙ ap (take n) (drop-take k (most_packet - k) (drop at s))
+    ∙ take-take n (most_packet - k) (drop k (drop at s)) (omega arith)
+    ∙ ap (take n) (drop-drop k at s)
 
 module _ (s : List ℕ) (at : ℕ) (s' : List ℕ) (at' : ℕ) (seen : seen_from s at ≡ seen_from s' at') where
   same_byte : (i : ℕ) → i < most_packet → get_or s (at + i) 0 ≡ get_or s' (at' + i) 0

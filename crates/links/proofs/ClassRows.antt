@@ -13,22 +13,9 @@ use Rattle.links.specs.Callers.{not_allowed}
 use Rattle.links.specs.Table.{not_opening, not_later, too_far, class_d_rows}
 
 module _ (normal : Bool) (at : ℕ) (header : Header) (user_data callers : List ℕ) (ours : ℕ) (state : State) where
-  pub row_305 : in_class_d header.kind ≡ false → dropped 305 normal header state ≡ class_d_rows normal at header user_data callers ours state
-  unfolding class_d_rows
-  row_305 k = simp k
-
   -- the first packet
   module _ (k : in_class_d header.kind ≡ true) (f : state.first ≡ true) where
-    pub row_309 : not_opening state.responder header user_data ≡ true → dropped 309 normal header state ≡ class_d_rows normal at header user_data callers ours state
-    unfolding class_d_rows
-    row_309 o = simp (k, f, o)
-
     module _ (o : not_opening state.responder header user_data ≡ false) where
-      pub row_310 : state.responder ≡ true → not_allowed callers ours user_data ≡ true
-          → dropped 310 normal header state ≡ class_d_rows normal at header user_data callers ours state
-      unfolding class_d_rows
-      row_310 r a = simp (k, f, rw r at o, r, a)
-
       pub row_allowed : state.responder ≡ true → not_allowed callers ours user_data ≡ false
           → handed_up normal at header state ≡ class_d_rows normal at header user_data callers ours state
       unfolding class_d_rows

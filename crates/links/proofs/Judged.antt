@@ -1,10 +1,10 @@
 -- What `judgeable` says of a link's bytes at a place, case by case, and what follows from it.
 -- Assumes nothing.
-use Prim.Native.Nat.{ℕ, ◌+◌, ◌≤◌, ◌<◌}
+use Prim.Native.Nat.{ℕ, ◌+◌, ◌≤◌}
 use mathlib.Core.Path.{◌≡◌, sym}
 use mathlib.Core.Bool.{true, false}
 use mathlib.Core.List.{List}
-use borrow.Author.Tests.{le-leb, lt-leb, leb-true, ltb-false}
+use borrow.Author.Tests.{le-leb, leb-true, ltb-false}
 use lib.Dec.{leb, ltb}
 use lib.ListN.{length}
 use Rattle.packet.specs.Sizes.{length_size, least_length, most_length, packet_size}
@@ -19,21 +19,6 @@ length_right n e =
     (ltb-false n least_length b.0, ltb-false most_length n b.1)
 
 module _ (s : List ℕ) (at : ℕ) where
-  -- fewer bytes than the length has
-  pub few : length s < at + length_size → false ≡ judgeable s at
-  unfolding judgeable
-  few h = simp (lt-leb _ _ h)
-
-  -- a length fault
-  pub fault : at + length_size ≤ length s → true ≡ length_fault (length_at s at) → true ≡ judgeable s at
-  unfolding judgeable
-  fault h f = simp (le-leb _ _ h, sym f)
-
-  -- a packet that is not whole
-  pub cut : at + length_size ≤ length s → false ≡ length_fault (length_at s at) → length s < at + packet_size (length_at s at) → false ≡ judgeable s at
-  unfolding judgeable
-  cut h f k = simp (le-leb _ _ h, sym f, lt-leb _ _ k)
-
   -- a whole packet
   pub whole : at + length_size ≤ length s → false ≡ length_fault (length_at s at) → at + packet_size (length_at s at) ≤ length s → true ≡ judgeable s at
   unfolding judgeable

@@ -2,6 +2,6 @@
 pub mod Bools
 pub mod Judged
 pub mod LinkRows
-pub mod Callers
+pub mod Ids
 pub mod ClassRows
 pub mod Step

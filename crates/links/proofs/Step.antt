@@ -1,8 +1,8 @@
 -- One step: which link is looked at, one law a case.
 -- Assumes nothing.
 use Prim.Native.Nat.{ℕ}
-use mathlib.Core.Path.{◌≡◌, refl, ◌∙◌}
-use mathlib.Core.Bool.{Bool, true, false}
+use mathlib.Core.Path.{◌≡◌, ◌∙◌}
+use mathlib.Core.Bool.{true, false, and-false}
 use mathlib.Core.List.{List}
 use Rattle.packet.specs.Packet.{packet_header_at, user_data_at}
 use Rattle.links.specs.declared.State.{State}
@@ -17,11 +17,7 @@ normal_up state e = simp e
 
 pub redundant_up : (state : State) → state.redundant_up ≡ true → both_down state ≡ false
 unfolding both_down
-redundant_up state e = go state.normal_up refl
-  where
-    go : (b : Bool) → state.normal_up ≡ b → both_down state ≡ false
-    go true u = simp u
-    go false u = simp (u, e)
+redundant_up state e = simp (e, and-false)
 
 module _ (normal : List ℕ) (normal_at : ℕ) (redundant : List ℕ) (redundant_at : ℕ) (callers : List ℕ) (ours : ℕ) (state : State) where
   pub at_normal : held state.normal_up normal normal_at ≡ true

@@ -1,6 +1,6 @@
 -- The table of a step, its rows in LINK-ORDER, each with what follows (specs/Taken).
 -- LINK-308, LINK-301, LINK-302, LINK-303, LINK-304 are `link_rows`; LINK-305, LINK-309, LINK-310, LINK-306, LINK-307, LINK-0 are
--- `class_dRows`.
+-- `class_d_rows`.
 -- Assumes nothing.
 use Rattle.std.specs.Prelude.{ℕ, ◌+◌, Bool, true, false, not, cond, ◌||◌, ◌&&◌, List, [], eqb, ltb, leb, length, take, drop}
 use Rattle.rules.specs.Rows.{when◌answer◌else◌}

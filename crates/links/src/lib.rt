@@ -3,7 +3,7 @@
 
 ghost use Rattle.std.specs.Prelude.{◌≡◌, true, false, List, ℕ, ◌+◌, ◌^◌, ◌≤◌, ◌<◌, length};
 ghost use Rattle.field.specs.Row.{width_of};
-ghost use Rattle.packet.specs.Sizes.{packet_header_size, least_length};
+ghost use Rattle.packet.specs.Sizes.{packet_header_size, least_length, packet_size};
 ghost use Rattle.packet_types.specs.Types.{au1_begins, caller_of, called_of, in_class_d};
 ghost use Rattle.links.specs.Taken.{fresh_state, empty_part, link_down, dropped, handed_up};
 ghost use Rattle.links.specs.Place.{part_place, user_data_place};
@@ -16,6 +16,7 @@ use packet::Header;
 use packet_types::{AU1, AU2};
 
 // The links that are up, the role, the setting, whether the first packet is still awaited, and the number last handed up.
+// Stays: `first` beside `last`, and no Option: the theorem `LooseHandsUp` (link_promises/specs/Promises) reads both.
 #[derive(Clone, Copy)]
 pub struct State {
     pub normal_up: bool,
@@ -28,6 +29,8 @@ pub struct State {
 
 // LINK-USED: what one step answers, the link that it names and how many of its bytes are used; of what is handed up its place in
 // that link's slice, and its fields.
+// Stays: the answer as 01's number, with the fields beside it: the theorems `AnswersOfTheTable` and `CountsItsUserData`
+// (link_promises/specs/Promises) read them.
 #[derive(Clone, Copy)]
 pub struct Taken {
     pub answer: u16,
@@ -78,97 +81,59 @@ fn empty_part(answer: u16, normal: bool, used: usize, state: State) -> Taken
 fn link_down(answer: u16, normal: bool, state: State) -> Taken
     ensures { result ≡ link_down answer normal state }
 {
-    let mut after = state;
-    if normal {
-        after.normal_up = false;
-        return empty_part(answer, normal, 0, after);
-    }
-    after.redundant_up = false;
+    let after = if normal {
+        State {
+            normal_up: false,
+            ..state
+        }
+    } else {
+        State {
+            redundant_up: false,
+            ..state
+        }
+    };
     empty_part(answer, normal, 0, after)
 }
 
-// LINK-305, LINK-309, LINK-310, LINK-306, LINK-307: used and dropped.
-fn dropped(answer: u16, normal: bool, header: Header, state: State) -> Taken
-    ensures { result ≡ dropped answer normal header state }
-{
-    let used = header.length as usize + packet::LENGTH_SIZE;
-    empty_part(answer, normal, used, state)
-}
-
-// LINK-0: handed up, and its number remembered.
-fn handed_up(normal: bool, at: usize, header: Header, state: State) -> Taken
-    requires { (least_length ≤ header.length) × (at + packet_header_size < 2 ^ 64) }
-    ensures { result ≡ handed_up normal at header state }
-{
-    let mut after = state;
-    after.first = false;
-    after.last = header.number;
-    Taken {
-        answer: 0,
-        normal,
-        used: header.length as usize + packet::LENGTH_SIZE,
-        start: at + packet::PACKET_HEADER_SIZE,
-        size: (header.length - packet::LEAST_LENGTH) as usize,
-        version: header.version,
-        application: header.application,
-        kind: header.kind,
-        number: header.number,
-        state: after,
-    }
-}
-
 // LINK-302: under the least length, or over the most.
+#[tactic(auto, unfolding(crate::specs::Table::length_fault))]
 fn length_fault(length: u16) -> bool
     ensures { result ≡ length_fault length }
 {
-    if length < packet::LEAST_LENGTH {
-        return true;
-    }
-    packet::MOST_LENGTH < length
+    !(packet::LEAST_LENGTH..=packet::MOST_LENGTH).contains(&length)
 }
 
 // LINK-LOOK: a length fault that can be judged, or a whole packet; LINK-PAST: nothing past the end.
+#[tactic(auto, unfolding(crate::specs::Table::judgeable))]
 fn judgeable(s: &[u8], at: usize) -> bool
     ensures { result ≡ judgeable s.now at }
 {
-    if s.len() < at {
-        return false;
-    }
-    let left = s.len() - at;
+    let left = s.len().saturating_sub(at);
+    // Stays: a way out, since the length is read only behind it.
     if left < packet::LENGTH_SIZE {
         return false;
     }
-    let length = field::read16(s, at);
-    if length_fault(length) {
-        return true;
-    }
-    if left < length as usize + packet::LENGTH_SIZE {
-        return false;
-    }
-    true
+    let length: u16 = field::number_at(s, at);
+    length_fault(length) || usize::from(length) + packet::LENGTH_SIZE <= left
 }
 
 // LINK-301: such bytes on a link that is up.
 fn held(up: bool, s: &[u8], at: usize) -> bool
     ensures { result ≡ held up s.now at }
 {
-    if up {
-        return judgeable(s, at);
-    }
-    false
+    up && judgeable(s, at)
 }
 
 // LINK-308: no link is up.
+#[tactic(auto, unfolding(crate::specs::Table::both_down))]
 fn both_down(state: State) -> bool
     ensures { result ≡ both_down state }
 {
-    if state.normal_up {
-        return false;
-    }
-    !state.redundant_up
+    !state.normal_up && !state.redundant_up
 }
 
 // LINK-309: what opens a connection, AU1 to the responder, AU2 to the initiator.
+// Stays: a packet type as its number in the table of types, held against the byte that was read (FORM-6).
 fn opening_of(responder: bool) -> u8
     ensures { result ≡ opening_of responder }
 {
@@ -176,172 +141,197 @@ fn opening_of(responder: bool) -> u8
 }
 
 // LINK-309: no acceptable opening for the role.
+#[tactic(auto, unfolding(crate::specs::Table::not_opening))]
 fn not_opening(responder: bool, header: Header, data: &[u8]) -> bool
     ensures { result ≡ not_opening responder header «data».now }
 {
-    if header.kind != opening_of(responder) {
-        return true;
+    header.kind != opening_of(responder)
+        || packet_types::opening_fault(header.kind, header.number, data)
+}
+
+// AU-1: the user data of an AU1, in which both its ids stand.
+#[derive(Clone, Copy)]
+struct Au1Data<'a> {
+    bytes: &'a [u8],
+    ghost both_ids: { width_of au1_begins ≤ length bytes.now },
+}
+
+impl Au1Data<'_> {
+    // AU-1: the caller's id.
+    #[tactic(auto, unfolding(packet_types::specs::Types::caller_of))]
+    fn caller(self) -> u32
+        ensures { result ≡ caller_of self.entry.bytes.now }
+    {
+        field::number_at(self.bytes, packet_types::CALLER_AT)
     }
-    packet_types::opening_fault(header.kind, header.number, data)
-}
 
-// AU-1: the caller's id of an AU1.
-fn caller_of(data: &[u8]) -> u32
-    requires { width_of au1_begins ≤ length «data».now }
-    ensures { result ≡ caller_of «data».now }
-{
-    field::read32(data, packet_types::CALLER_AT)
-}
-
-// AU-1: the called id of an AU1.
-fn called_of(data: &[u8]) -> u32
-    requires { width_of au1_begins ≤ length «data».now }
-    ensures { result ≡ called_of «data».now }
-{
-    field::read32(data, packet_types::CALLED_AT)
-}
-
-// LINK-LIST: an id is on a list, at any of its entries.
-fn listed(id: u32, callers: &[u8]) -> bool
-    ensures { result ≡ listed id callers.now }
-{
-    let mut at: usize = 0;
-    while packet_types::ID_SIZE <= callers.len() - at {
-        if field::read32(callers, at) == id {
-            return true;
-        }
-        at += packet_types::ID_SIZE;
+    // AU-1: the called id.
+    #[tactic(auto, unfolding(packet_types::specs::Types::called_of))]
+    fn called(self) -> u32
+        ensures { result ≡ called_of self.entry.bytes.now }
+    {
+        field::number_at(self.bytes, packet_types::CALLED_AT)
     }
-    false
 }
 
-// LINK-310: calls another than us, or is not on the list.
-fn not_allowed(callers: &[u8], ours: u32, data: &[u8]) -> bool
-    requires { width_of au1_begins ≤ length «data».now }
-    ensures { result ≡ not_allowed callers.now ours «data».now }
-{
-    let called = called_of(data);
-    if called != ours {
-        return true;
+// LINK-310: who may call, and whom: the lent list of callers, and our own id.
+#[derive(Clone, Copy)]
+struct Callers<'a> {
+    list: &'a [u8],
+    ours: u32,
+}
+
+impl Callers<'_> {
+    // LINK-LIST: an id is on the list, at any of its entries.
+    fn listed(self, id: u32) -> bool
+        ensures { result ≡ listed id self.entry.list.now }
+    {
+        self.list
+            .chunks_exact(packet_types::ID_SIZE)
+            .any(|entry| field::number_at::<u32>(entry, 0) == id)
     }
-    let on_list = listed(caller_of(data), callers);
-    !on_list
+
+    // LINK-310: an AU1 that calls another than us, or whose caller is not on the list.
+    #[tactic(auto, unfolding(crate::specs::Callers::not_allowed))]
+    fn not_allowed(self, au1: Au1Data<'_>) -> bool
+        ensures { result ≡ not_allowed self.entry.list.now self.entry.ours au1.entry.bytes.now }
+    {
+        au1.called() != self.ours || !self.listed(au1.caller())
+    }
 }
 
 // LINK-306: opens again, repeats or lies behind.
+#[tactic(auto, unfolding(crate::specs::Table::not_later))]
 fn not_later(kind: u8, d: u16) -> bool
     ensures { result ≡ not_later kind d }
 {
-    if packet_types::opens(kind) {
-        return true;
-    }
-    if d == 0 {
-        return true;
-    }
-    BEHIND_FROM <= d
+    packet_types::opens(kind) || d == 0 || BEHIND_FROM <= d
 }
 
 // LINK-307: leaves some out, where the setting is strict.
+#[tactic(auto, unfolding(crate::specs::Table::too_far))]
 fn too_far(strict: bool, d: u16) -> bool
     ensures { result ≡ too_far strict d }
 {
-    if strict {
-        return 2 <= d;
-    }
-    false
+    strict && 2 <= d
 }
 
-// LINK-309, LINK-310, LINK-0: the rows of class D for the first packet. The list judges a responder alone.
-fn first_packet(
+// A whole packet on a link, its length no fault: which link that is, where the packet stands, and its header.
+#[derive(Clone, Copy)]
+struct Found {
     normal: bool,
     at: usize,
     header: Header,
-    data: &[u8],
-    callers: &[u8],
-    ours: u32,
-    state: State,
-) -> Taken
-    requires { (in_class_d header.kind ≡ true) × (state.first ≡ true)
-        × (least_length ≤ header.length) × (at + packet_header_size < 2 ^ 64) }
-    ensures { result ≡ class_d_rows normal at header «data».now callers.now ours state }
-{
-    if not_opening(state.responder, header, data) {
-        return dropped(309, normal, header, state);
-    }
-    if !state.responder {
-        return handed_up(normal, at, header, state);
-    }
-    if not_allowed(callers, ours, data) {
-        return dropped(310, normal, header, state);
-    }
-    handed_up(normal, at, header, state)
+    ghost long_enough: { least_length ≤ header.length },
+    ghost within: { at + packet_header_size < 2 ^ 64 },
 }
 
-// LINK-306, LINK-307, LINK-0: the rows of class D for a later packet. They look neither at its user data nor at the list and our own id.
-fn later_packet(normal: bool, at: usize, header: Header, state: State) -> Taken
-    requires { (in_class_d header.kind ≡ true) × (state.first ≡ false)
-        × (least_length ≤ header.length) × (at + packet_header_size < 2 ^ 64) }
-    ensures { (user_data callers : List ℕ) (ours : ℕ) → result ≡ class_d_rows normal at header user_data callers ours state }
-{
-    let d = number::distance_of(header.number, state.last);
-    if not_later(header.kind, d) {
-        return dropped(306, normal, header, state);
+#[tactic(auto, using(crate::proofs::Ids::has_both_ids), unfolding(crate::specs::Table::class_d_rows))]
+impl Found {
+    // LINK-USED: as many bytes as the packet has.
+    fn used(self) -> usize
+        ensures { result ≡ packet_size self.header.length }
+    {
+        usize::from(self.header.length) + packet::LENGTH_SIZE
     }
-    if too_far(state.strict, d) {
-        return dropped(307, normal, header, state);
-    }
-    handed_up(normal, at, header, state)
-}
 
-// LINK-305, and the rows of the first packet or of a later one.
-fn class_d_rows(
-    normal: bool,
-    at: usize,
-    header: Header,
-    data: &[u8],
-    callers: &[u8],
-    ours: u32,
-    state: State,
-) -> Taken
-    requires { (least_length ≤ header.length) × (at + packet_header_size < 2 ^ 64) }
-    ensures { result ≡ class_d_rows normal at header «data».now callers.now ours state }
-{
-    if !packet_types::in_class_d(header.kind) {
-        return dropped(305, normal, header, state);
+    // LINK-305, LINK-309, LINK-310, LINK-306, LINK-307: used and dropped.
+    fn dropped(self, answer: u16, state: State) -> Taken
+        ensures { result ≡ dropped answer self.normal self.header state }
+    {
+        empty_part(answer, self.normal, self.used(), state)
     }
-    if state.first {
-        return first_packet(normal, at, header, data, callers, ours, state);
+
+    // LINK-0: handed up, and its number remembered.
+    fn handed_up(self, state: State) -> Taken
+        ensures { result ≡ handed_up self.normal self.at self.header state }
+    {
+        Taken {
+            answer: 0,
+            normal: self.normal,
+            used: self.used(),
+            start: self.at + packet::PACKET_HEADER_SIZE,
+            size: usize::from(self.header.length - packet::LEAST_LENGTH),
+            version: self.header.version,
+            application: self.header.application,
+            kind: self.header.kind,
+            number: self.header.number,
+            state: State {
+                first: false,
+                last: self.header.number,
+                ..state
+            },
+        }
     }
-    later_packet(normal, at, header, state)
+
+    // LINK-309, LINK-310, LINK-0: the rows of class D for the first packet. The list judges a responder alone.
+    fn first_packet(self, data: &[u8], callers: Callers<'_>, state: State) -> Taken
+        requires { (in_class_d self.header.kind ≡ true) × (state.first ≡ true) }
+        ensures { result ≡ class_d_rows self.normal self.at self.header «data».now callers.entry.list.now callers.entry.ours state }
+    {
+        if not_opening(state.responder, self.header, data) {
+            self.dropped(309, state)
+        } else if state.responder && callers.not_allowed(Au1Data { bytes: data }) {
+            self.dropped(310, state)
+        } else {
+            self.handed_up(state)
+        }
+    }
+
+    // LINK-306, LINK-307, LINK-0: the rows of class D for a later packet. They look neither at its user data nor at the list and our own
+    // id.
+    fn later_packet(self, state: State) -> Taken
+        requires { (in_class_d self.header.kind ≡ true) × (state.first ≡ false) }
+        ensures { (user_data callers : List ℕ) (ours : ℕ) →
+            result ≡ class_d_rows self.normal self.at self.header user_data callers ours state }
+    {
+        let d = number::distance_of(self.header.number, state.last);
+        if not_later(self.header.kind, d) {
+            self.dropped(306, state)
+        } else if too_far(state.strict, d) {
+            self.dropped(307, state)
+        } else {
+            self.handed_up(state)
+        }
+    }
+
+    // LINK-305, and the rows of the first packet or of a later one.
+    fn class_d_rows(self, data: &[u8], callers: Callers<'_>, state: State) -> Taken
+        ensures { result ≡ class_d_rows self.normal self.at self.header «data».now callers.entry.list.now callers.entry.ours state }
+    {
+        if !packet_types::in_class_d(self.header.kind) {
+            self.dropped(305, state)
+        } else if state.first {
+            self.first_packet(data, callers, state)
+        } else {
+            self.later_packet(state)
+        }
+    }
 }
 
 // LINK-302, LINK-303, LINK-304, and the rows of the packet's class: of the link looked at.
-fn rows_of(normal: bool, s: &[u8], at: usize, callers: &[u8], ours: u32, state: State) -> Taken
+#[tactic(auto, unfolding(crate::specs::Table::link_rows, crate::specs::Table::judgeable, crate::specs::Table::length_fault))]
+fn rows_of(normal: bool, s: &[u8], at: usize, callers: Callers<'_>, state: State) -> Taken
     requires { (both_down state ≡ false) × (judgeable s.now at ≡ true) }
-    ensures { result ≡ rows_of true normal s.now at callers.now ours state }
+    ensures { result ≡ rows_of true normal s.now at callers.entry.list.now callers.entry.ours state }
 {
-    if length_fault(field::read16(s, at)) {
+    if length_fault(field::number_at(s, at)) {
         return link_down(302, normal, state);
     }
     let header = packet::packet_header_at(s, at);
     if header.check != packet::check_at(s, at) {
-        return link_down(303, normal, state);
+        link_down(303, normal, state)
+    } else if header.flag != packet::flag_of(normal) {
+        link_down(304, normal, state)
+    } else {
+        let found = Found { normal, at, header };
+        found.class_d_rows(packet::user_data_at(s, at, header.length), callers, state)
     }
-    if header.flag != packet::flag_of(normal) {
-        return link_down(304, normal, state);
-    }
-    class_d_rows(
-        normal,
-        at,
-        header,
-        packet::user_data_at(s, at, header.length),
-        callers,
-        ours,
-        state,
-    )
 }
 
 // LINK-LOOK: one step over two links, at the normal one first.
+// Stays: a slice with a place beside it, and no reader: FORM-8, the functions of slices and numbers do a reader's work.
+#[tactic(auto, unfolding(crate::specs::Table::taken_of, crate::specs::Table::link_rows, crate::specs::Table::both_down))]
 pub fn take<'a>(
     normal: &'a [u8],
     normal_at: usize,
@@ -354,42 +344,45 @@ pub fn take<'a>(
     ensures { result ≡ taken_of normal.now normal_at redundant.now redundant_at
         callers.now ours state }
 {
+    let callers = Callers {
+        list: callers,
+        ours,
+    };
     if held(state.normal_up, normal, normal_at) {
-        return rows_of(true, normal, normal_at, callers, ours, state);
+        rows_of(true, normal, normal_at, callers, state)
+    } else if held(state.redundant_up, redundant, redundant_at) {
+        rows_of(false, redundant, redundant_at, callers, state)
+    } else if both_down(state) {
+        empty_part(308, true, 0, state)
+    } else {
+        empty_part(301, true, 0, state)
     }
-    if held(state.redundant_up, redundant, redundant_at) {
-        return rows_of(false, redundant, redundant_at, callers, ours, state);
-    }
-    if both_down(state) {
-        return empty_part(308, true, 0, state);
-    }
-    empty_part(301, true, 0, state)
 }
 
 // LINK-MADE: a part of a slice, nothing where it does not lie within.
+// Stays: two tests, and no `get`: the clause on `part_place` says where the part lies, and `get` says only which bytes it has.
 fn part_of<'a>(s: &'a [u8], start: usize, size: usize) -> &'a [u8]
     ensures { (result.now ≡ part_of s.now start size) × (result.ref_ptr ≡ part_place s.entry start size) }
 {
-    if s.len() < start {
-        return &s[..0];
+    if start <= s.len() && size <= s.len() - start {
+        let end = start + size;
+        &s[start..end]
+    } else {
+        &s[..0]
     }
-    if s.len() - start < size {
-        return &s[..0];
-    }
-    let end = start + size;
-    &s[start..end]
 }
 
 // The user data that a step hands up, a part of the normal or the redundant link's own slice (LINK-PART, LINK-EMPTY).
+#[tactic(auto, unfolding(crate::specs::Table::user_data_of, crate::specs::Place::user_data_place))]
 pub fn user_data_of<'a>(normal: &'a [u8], redundant: &'a [u8], taken: Taken) -> &'a [u8]
     ensures { (result.now ≡ user_data_of normal.now redundant.now taken)
         × (result.ref_ptr ≡ user_data_place normal.entry redundant.entry taken) }
 {
     if taken.answer != 0 {
-        return &normal[..0];
+        &normal[..0]
+    } else if taken.normal {
+        part_of(normal, taken.start, taken.size)
+    } else {
+        part_of(redundant, taken.start, taken.size)
     }
-    if taken.normal {
-        return part_of(normal, taken.start, taken.size);
-    }
-    part_of(redundant, taken.start, taken.size)
 }

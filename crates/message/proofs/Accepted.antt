@@ -8,36 +8,36 @@ use native.Mathlib.Omega.{arith}
 use lib.ListN.{length}
 use Rattle.rules.specs.Rows.{when◌answer◌else◌}
 use Rattle.message.specs.Table.{application, header_size, table_of, lists}
-use Rattle.message.specs.Layout.{data_tail}
+use Rattle.message.specs.Layout.{data_tail, whole}
 use Rattle.message.specs.Read.{message_header_of, tail_of, later_stamp, check_over, whole_of, parsed_of}
 use Rattle.message.specs.declared.Header.{Header}
 use Rattle.message.specs.declared.Tail.{Tail}
-use Rattle.message.specs.declared.TailRead.{TailRead}
-use Rattle.message.specs.declared.Parsed.{Parsed}
+use Rattle.message.specs.declared.Message.{Message}
+use Rattle.std.proofs.Common.{Option, Some, None}
 
 pub record Accepted (s : List ℕ) (h : Header) (t : Tail) : Type 0 where
   pub header : message_header_of s ≡ h
   pub total_listed : lists (table_of (message_header_of s).kind) (length s) ≡ true
-  pub tail : tail_of (table_of (message_header_of s).kind).after s ≡ TailRead.Is t
+  pub tail : tail_of (table_of (message_header_of s).kind).after s ≡ Some t
   pub stamps : later_stamp (message_header_of s) ≡ false
   pub check : check_over t.check ≡ false
 
-never : {A : Type 0} (h : Header) (t : Tail) → Parsed.Malformed ≡ Parsed.Whole h t → A
+never : {A : Type 0} (h : Header) (t : Tail) → None ≡ Some (whole h t) → A
 never h t e = let z : ◌≡◌ {A = ℕ} 0 1 = cc in let n : ⊥ = omega arith in absurd n
 
-same_header : (g h : Header) (t u : Tail) → Parsed.Whole g u ≡ Parsed.Whole h t → g ≡ h
-same_header g h t u e = cc
+same_header : (g h : Header) (t u : Tail) → Some (whole g u) ≡ Some (whole h t) → g ≡ h
+same_header g h t u e = let same : whole g u ≡ whole h t = cc in ap (λ (m : Message). m.header) same
 
-same_tail : (g h : Header) (t u : Tail) → Parsed.Whole g u ≡ Parsed.Whole h t → u ≡ t
-same_tail g h t u e = cc
+same_tail : (g h : Header) (t u : Tail) → Some (whole g u) ≡ Some (whole h t) → u ≡ t
+same_tail g h t u e = let same : whole g u ≡ whole h t = cc in ap (λ (m : Message). m.tail) same
 
-pub accepted : (s : List ℕ) (h : Header) (t : Tail) → parsed_of s ≡ Parsed.Whole h t → Accepted s h t
+pub accepted : (s : List ℕ) (h : Header) (t : Tail) → parsed_of s ≡ Some (whole h t) → Accepted s h t
 unfolding parsed_of whole_of
 accepted s h t e = listed (lists (table_of (message_header_of s).kind) (length s)) refl e
   where
-    judged : (u : Tail) → lists (table_of (message_header_of s).kind) (length s) ≡ true → tail_of (table_of (message_header_of s).kind).after s ≡ TailRead.Is u
+    judged : (u : Tail) → lists (table_of (message_header_of s).kind) (length s) ≡ true → tail_of (table_of (message_header_of s).kind).after s ≡ Some u
         → (b k : Bool) → later_stamp (message_header_of s) ≡ b → check_over u.check ≡ k
-        → (when b answer Parsed.Malformed else when k answer Parsed.Malformed else Parsed.Whole (message_header_of s) u) ≡ Parsed.Whole h t → Accepted s h t
+        → (when b answer None else when k answer None else Some (whole (message_header_of s) u)) ≡ Some (whole h t) → Accepted s h t
     judged u l r true k p q e = never h t e
     judged u l r false true p q e = never h t e
     judged u l r false false p q e =
@@ -45,27 +45,27 @@ accepted s h t e = listed (lists (table_of (message_header_of s).kind) (length s
         record {
           header = same_header (message_header_of s) h t u e;
           total_listed = l;
-          tail = r ∙ ap TailRead.Is same;
+          tail = r ∙ ap Some same;
           stamps = p;
           check = sym (ap (λ (v : Tail). check_over v.check) same) ∙ q;
         }
 
     read : lists (table_of (message_header_of s).kind) (length s) ≡ true
-        → (r : TailRead) → tail_of (table_of (message_header_of s).kind).after s ≡ r → whole_of (message_header_of s) r ≡ Parsed.Whole h t → Accepted s h t
-    read l TailRead.Malformed r e = never h t e
-    read l (TailRead.Is u) r e = judged u l r (later_stamp (message_header_of s)) (check_over u.check) refl refl e
+        → (r : Option Tail) → tail_of (table_of (message_header_of s).kind).after s ≡ r → whole_of (message_header_of s) r ≡ Some (whole h t) → Accepted s h t
+    read l None r e = never h t e
+    read l (Some u) r e = judged u l r (later_stamp (message_header_of s)) (check_over u.check) refl refl e
 
     listed : (l : Bool) → lists (table_of (message_header_of s).kind) (length s) ≡ l
-        → (when not l answer Parsed.Malformed else whole_of (message_header_of s) (tail_of (table_of (message_header_of s).kind).after s)) ≡ Parsed.Whole h t → Accepted s h t
+        → (when not l answer None else whole_of (message_header_of s) (tail_of (table_of (message_header_of s).kind).after s)) ≡ Some (whole h t) → Accepted s h t
     listed false l e = never h t e
     listed true l e = read l (tail_of (table_of (message_header_of s).kind).after s) refl e
 
 -- of an accepted message with application data, the data are all bytes behind the header
-pub accepted_data : (s : List ℕ) (h : Header) (t : Tail) → parsed_of s ≡ Parsed.Whole h t → h.kind ≡ application → t.«data» ≡ length s - header_size
+pub accepted_data : (s : List ℕ) (h : Header) (t : Tail) → parsed_of s ≡ Some (whole h t) → h.kind ≡ application → t.«data» ≡ length s - header_size
 unfolding table_of
 accepted_data s h t e k =
     let a = accepted s h t e in
     let g : (message_header_of s).kind ≡ application = ap (λ (x : Header). x.kind) a.header ∙ k in
-    let b : TailRead.Is (data_tail (length s - header_size)) ≡ TailRead.Is t = rw g at a.tail in
+    let b : Some (data_tail (length s - header_size)) ≡ Some t = rw g at a.tail in
     let c : data_tail (length s - header_size) ≡ t = cc in
     sym (ap (λ (x : Tail). x.«data») c)

@@ -1,11 +1,12 @@
 -- What holds of every row of the table of types, and what a listed total says of the bytes.
 -- Assumes nothing.
 use Prim.Native.Nat.{ℕ, ◌+◌, ◌-◌, ◌<◌, ◌≤◌}
-use mathlib.Core.Path.{◌≡◌, refl, sym, subst}
-use mathlib.Core.Bool.{Bool, true, false, ◌&&◌}
+use Rattle.std.proofs.lemmas.Bool.{and_parts}
+use mathlib.Core.Path.{◌≡◌, refl}
+use mathlib.Core.Bool.{Bool, true, false}
 use native.Mathlib.Omega.{arith}
 use borrow.Author.Tests.{leb-true}
-use lib.Dec.{T, eqb, leb}
+use lib.Dec.{eqb, leb}
 use Rattle.rules.specs.Rows.{when◌answer◌else◌}
 use Rattle.field.specs.Row.{width_of}
 use Rattle.message.specs.Table.{offset_start, offset_answ1, offset_answ2, offset_est, offset_end, application}
@@ -31,26 +32,14 @@ every_row P p1 p2 p3 p4 p5 p6 p0 type = go (eqb type offset_start) (eqb type off
     go false false false false false true = p6
     go false false false false false false = p0
 
-pub and_left : (a b : Bool) → a && b ≡ true → a ≡ true
-and_left true b e = refl
-and_left false b e = e
-
-pub and_right : (a b : Bool) → a && b ≡ true → b ≡ true
-and_right true b e = e
-and_right false b e = absurd (subst T (sym e) tt)
-
 module _ (row : Listed) (size : ℕ) (e : lists row size ≡ true) where
   pub at_least : row.least ≤ size
   unfolding lists
-  at_least = leb-true row.least size (and_left (leb row.least size) (leb size row.most) e)
+  at_least = leb-true row.least size (and_parts (leb row.least size) (leb size row.most) e).0
 
   pub at_most : size ≤ row.most
   unfolding lists
-  at_most = leb-true size row.most (and_right (leb row.least size) (leb size row.most) e)
-
-pub and_false : (a : Bool) → a && false ≡ false
-and_false true = refl
-and_false false = refl
+  at_most = leb-true size row.most (and_parts (leb row.least size) (leb size row.most) e).1
 
 -- a listed total has room for the fields after the header
 pub fields_within : (row : Listed) (type size : ℕ) → row ≡ table_of type → lists row size ≡ true → header_size + width_of (widths_of row.after) ≤ size

@@ -1,11 +1,11 @@
 -- The fields of a message, in their order: said once as widths, for reading and for writing.
-use Rattle.std.specs.Prelude.{ℕ, List, [], ◌∷◌, ◌++◌, get_or, pos}
+use Rattle.std.specs.Prelude.{ℕ, List, [], ◌∷◌, ◌++◌, get_or, pos, Option, Some, None}
 use Rattle.clock.specs.Clock.{sign_magnitude_of, offset_read}
 use Rattle.clock.specs.declared.Offset.{Offset}
-use Rattle.clock.specs.declared.OffsetRead.{OffsetRead}
+use Rattle.clock.specs.declared.Offset.{Offset}
 use Rattle.message.specs.declared.Header.{Header}
 use Rattle.message.specs.declared.Tail.{Tail}
-use Rattle.message.specs.declared.TailRead.{TailRead}
+use Rattle.message.specs.declared.Message.{Message}
 use Rattle.message.specs.declared.After.{After}
 use Rattle.message.specs.declared.After.TheVariants.{Period, Nothing, Offsets, Check, Data}
 
@@ -69,6 +69,10 @@ check_tail check = tail 0 no_offset no_offset check 0
 abbrev pub data_tail : ℕ → Tail
 data_tail n = tail 0 no_offset no_offset 0 n
 
+-- a message, of its header and its tail
+abbrev pub whole : Header → Tail → Message
+whole h t = record { header = h; tail = t }
+
 -- MSG-SIGN: an offset goes as sign and magnitude
 abbrev pub offset_fields : Offset → List ℕ
 offset_fields offset = (sign_magnitude_of offset.0).sign ∷ (sign_magnitude_of offset.0).magnitude ∷ []
@@ -82,15 +86,15 @@ after_fields Check t = t.check ∷ []
 after_fields Data t = []
 
 -- MSG-PAIR: min and max as read, each of which must be a pair that MSG-SIGN has
-abbrev pub offsets_from : OffsetRead → OffsetRead → TailRead
-offsets_from OffsetRead.Malformed max = TailRead.Malformed
-offsets_from (OffsetRead.Is min) OffsetRead.Malformed = TailRead.Malformed
-offsets_from (OffsetRead.Is min) (OffsetRead.Is max) = TailRead.Is (offsets_tail min max)
+abbrev pub offsets_from : Option Offset → Option Offset → Option Tail
+offsets_from None max = None
+offsets_from (Some min) None = None
+offsets_from (Some min) (Some max) = Some (offsets_tail min max)
 
 -- MSG-1 to MSG-6: the fields after the header, as read; n is how many bytes stand after it
-abbrev pub tail_from : After → List ℕ → ℕ → TailRead
-tail_from Period f n = TailRead.Is (period_tail (get_or f 0 0))
-tail_from Nothing f n = TailRead.Is empty_tail
+abbrev pub tail_from : After → List ℕ → ℕ → Option Tail
+tail_from Period f n = Some (period_tail (get_or f 0 0))
+tail_from Nothing f n = Some empty_tail
 tail_from Offsets f n = offsets_from (offset_read (get_or f 0 0) (get_or f 1 0)) (offset_read (get_or f 2 0) (get_or f 3 0))
-tail_from Check f n = TailRead.Is (check_tail (get_or f 0 0))
-tail_from Data f n = TailRead.Is (data_tail n)
+tail_from Check f n = Some (check_tail (get_or f 0 0))
+tail_from Data f n = Some (data_tail n)

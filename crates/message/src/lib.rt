@@ -8,9 +8,10 @@ ghost use Rattle.message.specs.Layout.{widths_of, empty_tail, period_tail, offse
 ghost use Rattle.message.specs.Read.{message_header_of, offset_pair_at, tail_of, data_of, data_place};
 ghost use Rattle.message.specs.Read.{later_stamp, check_over, whole_of, parsed_of};
 
-use clock::{Count, Offset, OffsetRead};
+use clock::{Count, Offset};
 
 // The types, by their numbers: MSG-1 to MSG-6.
+// Stays: 01 names a match on message type numbers (FORM-7), and a header holds any byte that was read, also of no type.
 pub const OFFSET_START: u8 = 1;
 
 pub const OFFSET_ANSW1: u8 = 2;
@@ -65,18 +66,11 @@ pub struct Tail {
     pub data: usize,
 }
 
-// Any bytes are a message with its fields or malformed.
+// A message with its fields; of application data it has the count, and the bytes are lent beside it.
 #[derive(Clone, Copy)]
-pub enum Parsed {
-    Whole(Header, Tail),
-    Malformed,
-}
-
-// A tail as read; Malformed by MSG-PAIR.
-#[derive(Clone, Copy)]
-pub enum TailRead {
-    Is(Tail),
-    Malformed,
+pub struct Message {
+    pub header: Header,
+    pub tail: Tail,
 }
 
 // What stands after the header, by the type's row.
@@ -113,34 +107,38 @@ pub fn empty_tail() -> Tail
 pub fn period_tail(period: u32) -> Tail
     ensures { result ≡ period_tail period }
 {
-    let mut tail = empty_tail();
-    tail.period = period;
-    tail
+    Tail {
+        period,
+        ..empty_tail()
+    }
 }
 
 pub fn offsets_tail(min: Offset, max: Offset) -> Tail
     ensures { result ≡ offsets_tail min max }
 {
-    let mut tail = empty_tail();
-    tail.min = min;
-    tail.max = max;
-    tail
+    Tail {
+        min,
+        max,
+        ..empty_tail()
+    }
 }
 
 pub fn check_tail(check: u8) -> Tail
     ensures { result ≡ check_tail check }
 {
-    let mut tail = empty_tail();
-    tail.check = check;
-    tail
+    Tail {
+        check,
+        ..empty_tail()
+    }
 }
 
 pub fn data_tail(data: usize) -> Tail
     ensures { result ≡ data_tail «data» }
 {
-    let mut tail = empty_tail();
-    tail.data = data;
-    tail
+    Tail {
+        data,
+        ..empty_tail()
+    }
 }
 
 // A row: what stands after the header, and the least and the most total.
@@ -151,6 +149,7 @@ fn message_row(after: After, least: usize, most: usize) -> Listed
 }
 
 // The table of types, MSG-1 to MSG-6. A type that is not listed has no total: none is at least 1 and at most 0.
+#[tactic(auto, unfolding(crate::specs::Table::table_of))]
 pub fn table_of(kind: u8) -> Listed
     ensures { result ≡ table_of kind }
 {
@@ -167,24 +166,24 @@ pub fn table_of(kind: u8) -> Listed
 
 impl Listed {
     // MSG-LISTED: whether the row lists this total.
+    #[tactic(auto, unfolding(crate::specs::Table::lists))]
     pub fn lists(self, total: usize) -> bool
         ensures { result ≡ lists self total }
     {
-        if total < self.least {
-            return false;
-        }
-        total <= self.most
+        (self.least..=self.most).contains(&total)
     }
 
     // The total with n bytes of application data, where the type has them.
+    #[tactic(auto, unfolding(crate::specs::Table::total_of))]
     pub fn total_of(self, n: usize) -> usize
         requires { (self.least + n) < 2 ^ 64 }
         ensures { result ≡ total_of self n }
     {
         if self.least < self.most {
-            return self.least + n;
+            self.least + n
+        } else {
+            self.least
         }
-        self.least
     }
 }
 
@@ -194,67 +193,53 @@ fn message_header_of(s: &[u8]) -> Header
     ensures { result ≡ message_header_of s.now }
 {
     Header {
-        kind: field::read8(s, 0),
-        number: field::read16(s, 1),
-        stamp: Count(field::read32(s, 3)),
-        last_peer_stamp: Count(field::read32(s, 7)),
-        arrival: Count(field::read32(s, 11)),
+        kind: field::number_at(s, 0),
+        number: field::number_at(s, 1),
+        stamp: Count(field::number_at(s, 3)),
+        last_peer_stamp: Count(field::number_at(s, 7)),
+        arrival: Count(field::number_at(s, 11)),
     }
 }
 
 // MSG-PAIR: both must be pairs of sign and magnitude.
-fn offsets_from(min: OffsetRead, max: OffsetRead) -> TailRead
+fn offsets_from(min: Option<Offset>, max: Option<Offset>) -> Option<Tail>
     ensures { result ≡ offsets_from min max }
 {
-    let OffsetRead::Is(min) = min else {
-        return TailRead::Malformed;
-    };
-    let OffsetRead::Is(max) = max else {
-        return TailRead::Malformed;
-    };
-    TailRead::Is(offsets_tail(min, max))
+    Some(offsets_tail(min?, max?))
 }
 
 // MSG-SIGN: an offset, as sign and magnitude.
-fn offset_pair_at(s: &[u8], at: usize) -> OffsetRead
+fn offset_pair_at(s: &[u8], at: usize) -> Option<Offset>
     requires { at + offset_size ≤ length s.now }
     ensures { result ≡ offset_pair_at s.now at }
 {
-    let sign = field::read8(s, at);
-    let magnitude = field::read32(s, at + 1);
-    Offset::read(sign, magnitude)
+    Offset::read(field::number_at(s, at), field::number_at(s, at + 1))
 }
 
 // What stands after the header.
-fn tail_of(after: After, s: &[u8]) -> TailRead
+fn tail_of(after: After, s: &[u8]) -> Option<Tail>
     requires { header_size + width_of (widths_of after) ≤ length s.now }
     ensures { result ≡ tail_of after s.now }
 {
     match after {
-        After::Period => TailRead::Is(period_tail(field::read32(s, HEADER_SIZE))),
-        After::Nothing => TailRead::Is(empty_tail()),
+        After::Period => Some(period_tail(field::number_at(s, HEADER_SIZE))),
+        After::Nothing => Some(empty_tail()),
         After::Offsets => offsets_from(offset_pair_at(s, HEADER_SIZE), offset_pair_at(s, MAX_AT)),
-        After::Check => TailRead::Is(check_tail(field::read8(s, HEADER_SIZE))),
-        After::Data => TailRead::Is(data_tail(s.len() - HEADER_SIZE)),
+        After::Check => Some(check_tail(field::number_at(s, HEADER_SIZE))),
+        After::Data => Some(data_tail(s.len() - HEADER_SIZE)),
     }
 }
 
 // MSG-LATER: an OffsetStart with a later stamp.
+#[tactic(auto, unfolding(crate::specs::Read::later_stamp))]
 pub fn later_stamp(h: Header) -> bool
     ensures { result ≡ later_stamp h }
 {
-    if h.kind != OFFSET_START {
-        return false;
-    }
-    let last_peer_stamp = h.last_peer_stamp;
-    if last_peer_stamp.0 != 0 {
-        return true;
-    }
-    let arrival = h.arrival;
-    arrival.0 != 0
+    h.kind == OFFSET_START && (h.last_peer_stamp != Count(0) || h.arrival != Count(0))
 }
 
 // MSG-CHECK: over 1.
+#[tactic(auto, unfolding(crate::specs::Read::check_over))]
 pub fn check_over(check: u8) -> bool
     ensures { result ≡ check_over check }
 {
@@ -262,43 +247,43 @@ pub fn check_over(check: u8) -> bool
 }
 
 // A header and a tail of a listed total.
-fn whole_of(h: Header, read: TailRead) -> Parsed
-    ensures { result ≡ whole_of h read }
+#[tactic(auto, unfolding(crate::specs::Read::whole_of))]
+fn whole_of(header: Header, read: Option<Tail>) -> Option<Message>
+    ensures { result ≡ whole_of header read }
 {
-    let TailRead::Is(t) = read else {
-        return Parsed::Malformed;
-    };
-    if later_stamp(h) {
-        return Parsed::Malformed;
+    let tail = read?;
+    if later_stamp(header) || check_over(tail.check) {
+        None
+    } else {
+        Some(Message { header, tail })
     }
-    if check_over(t.check) {
-        return Parsed::Malformed;
-    }
-    Parsed::Whole(h, t)
 }
 
-// The message that the bytes are.
-pub fn parse(s: &[u8]) -> Parsed
+// The message that the bytes are; none where they are malformed.
+#[tactic(auto, unfolding(crate::specs::Read::parsed_of))]
+pub fn parse(s: &[u8]) -> Option<Message>
     ensures { result ≡ parsed_of s.now }
 {
     if s.len() < HEADER_SIZE {
-        return Parsed::Malformed;
+        return None;
     }
-    let h = message_header_of(s);
-    let row = table_of(h.kind);
+    let header = message_header_of(s);
+    let row = table_of(header.kind);
     if row.lists(s.len()) {
-        let after = row.after;
-        return whole_of(h, tail_of(after, s));
+        whole_of(header, tail_of(row.after, s))
+    } else {
+        None
     }
-    Parsed::Malformed
 }
 
 // MSG-DATA: the application data, as a part of the message.
+#[tactic(auto, unfolding(crate::specs::Read::data_place))]
 pub fn data_of(s: &[u8]) -> &[u8]
     ensures { (result.now ≡ data_of s.now) × (result.ref_ptr ≡ data_place s.entry) }
 {
     if s.len() < HEADER_SIZE {
-        return &s[0..0];
+        &s[..0]
+    } else {
+        &s[HEADER_SIZE..]
     }
-    &s[HEADER_SIZE..]
 }

@@ -1,6 +1,7 @@
 -- The steps of writing, each from what the tests on the way say.
 -- Assumes nothing.
 use Prim.Native.Nat.{ℕ, ◌+◌, ◌<◌, ◌≤◌, ◌^◌}
+use Rattle.std.proofs.Math.Bool.{and-false}
 use mathlib.Core.Path.{◌≡◌, refl, ap, ◌∙◌, sym, subst}
 use mathlib.Core.Bool.{Bool, true, false, not, ◌&&◌}
 use mathlib.Core.List.{List}
@@ -15,7 +16,7 @@ use Rattle.message.specs.Read.{later_stamp, check_over}
 use Rattle.message.specs.declared.Header.{Header}
 use Rattle.message.specs.declared.Tail.{Tail}
 use Rattle.message.specs.declared.Listed.{Listed}
-use Rattle.message.proofs.Rows.{and_false, least_small}
+use Rattle.message.proofs.Rows.{least_small}
 use Rattle.message_writing.specs.Writing.{header_bytes, after_bytes, message_bytes, lent_as_said, allowed_of, writes, message_written}
 use Rattle.message_writing.proofs.Sizes.{sized}
 
@@ -79,7 +80,7 @@ module _ (out : List ℕ) (h : Header) (t : Tail) (lent : List ℕ) where
   pub no_room : (row : Listed) (total : ℕ) → row ≡ table_of h.kind → total ≡ total_of row (length lent) → length out < total → Answer 0 out
   unfolding writes
   no_room row total e f l =
-      nothing (rw (← (total_of_type row total e f), lt-leb total (length out) l) (and_false (allowed_of h t (length lent))))
+      nothing (rw (← (total_of_type row total e f), lt-leb total (length out) l) (and-false (allowed_of h t (length lent))))
 
   -- what is known where the bytes are written
   pub record Ready (row : Listed) (total : ℕ) : Type 0 where

@@ -7,34 +7,35 @@ ghost use Rattle.message.specs.Table.{header_size, offset_size};
 ghost use Rattle.message_writing.specs.Writing.{header_bytes, offset_bytes, after_bytes, lent_as_said, allowed_of, message_written};
 
 use clock::Offset;
-use message::{After, HEADER_SIZE, Header, MAX_AT, Tail};
+use message::{After, HEADER_SIZE, Header, MAX_AT, Message, Tail};
 
 // MSG-HEAD.
+#[tactic(auto, unfolding(field::specs::Field::bytes_of))]
 fn write_header(out: &mut [u8], h: Header)
     requires { header_size ≤ length out.old }
     ensures { out.new ≡ sets out.old 0 (header_bytes h) }
 {
-    let stamp = h.stamp;
-    let last_peer_stamp = h.last_peer_stamp;
-    let arrival = h.arrival;
-    field::write(out, 0, 1, h.kind as u32);
-    field::write(out, 1, 2, h.number as u32);
-    field::write(out, 3, 4, stamp.0);
-    field::write(out, 7, 4, last_peer_stamp.0);
-    field::write(out, 11, 4, arrival.0);
+    field::write(out, 0, 1, u32::from(h.kind));
+    field::write(out, 1, 2, u32::from(h.number));
+    field::write(out, 3, 4, h.stamp.0);
+    field::write(out, 7, 4, h.last_peer_stamp.0);
+    field::write(out, 11, 4, h.arrival.0);
 }
 
 // An offset, as sign and magnitude.
+// Stays: a slice and a place in it, as `field::write` has them.
+#[tactic(auto, unfolding(field::specs::Field::bytes_of))]
 fn write_offset(out: &mut [u8], at: usize, offset: Offset)
     requires { at + offset_size ≤ length out.old }
     ensures { out.new ≡ sets out.old at (offset_bytes offset) }
 {
     let pair = offset.sign_magnitude();
-    field::write(out, at, 1, pair.sign as u32);
+    field::write(out, at, 1, u32::from(pair.sign));
     field::write(out, at + 1, 4, pair.magnitude);
 }
 
 // What follows the header.
+#[tactic(auto, unfolding(field::specs::Field::bytes_of))]
 fn write_after(out: &mut [u8], after: After, t: Tail, data: &[u8])
     requires { header_size + length (after_bytes after t «data».now) ≤ length out.old }
     ensures { out.new ≡ sets out.old header_size (after_bytes after t «data».now) }
@@ -43,12 +44,10 @@ fn write_after(out: &mut [u8], after: After, t: Tail, data: &[u8])
         After::Period => field::write(out, HEADER_SIZE, 4, t.period),
         After::Nothing => {}
         After::Offsets => {
-            let min = t.min;
-            let max = t.max;
-            write_offset(out, HEADER_SIZE, min);
-            write_offset(out, MAX_AT, max);
+            write_offset(out, HEADER_SIZE, t.min);
+            write_offset(out, MAX_AT, t.max);
         }
-        After::Check => field::write(out, HEADER_SIZE, 1, t.check as u32),
+        After::Check => field::write(out, HEADER_SIZE, 1, u32::from(t.check)),
         After::Data => field::copy(out, HEADER_SIZE, data),
     }
 }
@@ -57,51 +56,34 @@ fn write_after(out: &mut [u8], after: After, t: Tail, data: &[u8])
 fn lent_as_said(after: After, said: usize, n: usize) -> bool
     ensures { result ≡ lent_as_said after said n }
 {
-    match after {
-        After::Period => true,
-        After::Nothing => true,
-        After::Offsets => true,
-        After::Check => true,
-        After::Data => said == n,
-    }
+    !matches!(after, After::Data) || said == n
 }
 
 // MSG-WRITE: what the table allows, of a message with n bytes of data lent.
-fn allowed_of(h: Header, t: Tail, n: usize) -> bool
+#[tactic(auto, unfolding(crate::specs::Writing::allowed_of))]
+fn allowed_of(message: Message, n: usize) -> bool
     requires { n < 2 ^ 63 }
-    ensures { result ≡ allowed_of h t n }
+    ensures { result ≡ allowed_of message.header message.tail n }
 {
-    let row = message::table_of(h.kind);
-    let total = row.total_of(n);
-    if row.lists(total) {
-        if message::later_stamp(h) {
-            return false;
-        }
-        if message::check_over(t.check) {
-            return false;
-        }
-        let after = row.after;
-        return lent_as_said(after, t.data, n);
-    }
-    false
+    let row = message::table_of(message.header.kind);
+    row.lists(row.total_of(n))
+        && !message::later_stamp(message.header)
+        && !message::check_over(message.tail.check)
+        && lent_as_said(row.after, message.tail.data, n)
 }
 
 // MSG-WRITE: writes the message from the start of out, and answers how many bytes: none where it is not allowed or out has no
 // room.
-pub fn write(out: &mut [u8], h: Header, t: Tail, data: &[u8]) -> usize
-    ensures { let bytes = message_written (length out.old) h t «data».now in
+pub fn write(out: &mut [u8], message: Message, data: &[u8]) -> usize
+    ensures { let bytes = message_written (length out.old) message.header message.tail «data».now in
         (result ≡ length bytes) × (out.new ≡ sets out.old 0 bytes) }
 {
-    let row = message::table_of(h.kind);
+    let row = message::table_of(message.header.kind);
     let total = row.total_of(data.len());
-    if out.len() < total {
+    if out.len() < total || !allowed_of(message, data.len()) {
         return 0;
     }
-    if allowed_of(h, t, data.len()) {
-        let after = row.after;
-        write_header(out, h);
-        write_after(out, after, t, data);
-        return total;
-    }
-    0
+    write_header(out, message.header);
+    write_after(out, row.after, message.tail, data);
+    total
 }

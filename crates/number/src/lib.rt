@@ -11,12 +11,13 @@ pub const BEHIND_FROM: u16 = 32768;
 pub fn distance_of(number: u16, last: u16) -> u16
     ensures { result ≡ distance_of number last }
 {
-    std::num::wrapping_sub_u16(number, last)
+    number.wrapping_sub(last)
 }
 
 // NUMBER-1: the number that follows.
+#[tactic(auto, unfolding(crate::specs::Number::next_of, rules::specs::Modulo::modulo))]
 pub fn next_of(number: u16) -> u16
     ensures { result ≡ next_of number }
 {
-    std::num::wrapping_add_u16(number, 1)
+    number.wrapping_add(1)
 }

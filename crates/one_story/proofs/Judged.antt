@@ -5,7 +5,7 @@ use mathlib.Core.Path.{◌≡◌, refl, sym, ap, ap₂, ◌∙◌, subst}
 use mathlib.Core.Bool.{Bool, true, false, not, ◌&&◌, ◌||◌}
 use mathlib.Core.List.{List}
 use native.Mathlib.Omega.{arith}
-use borrow.Author.Tests.{ltb-true, ltb-false, le-leb, lt-leb, eq-eqb, ne_eqb, eqb-false, leb-false}
+use borrow.Author.Tests.{ltb-true, ltb-false, le-leb, eq-eqb, eqb-false, leb-false}
 use lib.Dec.{eqb, ltb, leb}
 use Rattle.number.specs.Number.{numbers, behind_from, distance_of}
 use Rattle.packet.specs.Packet.{packet_header_at, user_data_at}
@@ -19,7 +19,7 @@ use Rattle.links.proofs.Bools.{both_false, by_row}
 use Rattle.links.proofs.ClassRows.{row_allowed, row_answered, row_306, row_307, row_later}
 use Rattle.links.proofs.LinkRows.{row_class}
 use Rattle.links.proofs.Step as step
-use Rattle.link_promises.proofs.Accepted.{right_length}
+use Rattle.link_promises.proofs.Accepted.{right_length, in_time}
 use Rattle.one_story.specs.Sequence.{Packet, Gateway, fresh_of, Opens, Sent}
 use Rattle.one_story.specs.OneStory.{BothUp, most_lag}
 use Rattle.one_story.proofs.Numbers.{distance_ahead, distance_behind}
@@ -43,7 +43,7 @@ pub remembers : (gateway : Gateway) (place done : ℕ) → remembered_of (place 
 remembers gateway place zero = refl
 remembers gateway place (suc last) = refl
 
--- d = 1 leaves none out; d of 2 or more does, in the strict setting; and the loose one minds none
+-- d = 1 leaves none out; d of 2 or more does, in the strict setting
 one_not_far : (strict : Bool) → too_far strict 1 ≡ false
 unfolding too_far
 one_not_far true = refl
@@ -52,10 +52,6 @@ one_not_far false = refl
 pub two_far : (d : ℕ) → 2 ≤ d → too_far true d ≡ true
 unfolding too_far
 two_far d h = le-leb 2 d h
-
-pub loose_never_far : (d : ℕ) → too_far false d ≡ false
-unfolding too_far
-loose_never_far d = refl
 
 -- an answer that drops a packet: past those of either class, and not 308
 abbrev pub Drop : ℕ → Type 0
@@ -130,20 +126,13 @@ module _ (gateway : Gateway) (p : Packet) (normal : Bool) (s : List ℕ) (at : �
     d_of : (place : ℕ) → Sent gateway place p → d ≡ distance_of (place % numbers) (last % numbers)
     d_of place g = ap (λ (n : ℕ). distance_of n (last % numbers)) (r.same_number ∙ g.numbered)
 
-    in_time : opens (packet_header_at s at).kind ≡ false → 1 ≤ d → d < behind_from → not_later (packet_header_at s at).kind d ≡ false
-    unfolding not_later
-    in_time o l h = simp (o, ne_eqb d 0 (λ (z : d ≡ 0). none d l z), lt-leb behind_from d h)
-      where
-        none : (n : ℕ) → 1 ≤ n → n ≡ 0 → ⊥
-        none n l z = omega arith
-
     -- where the setting lets it
     pub later_one : (place : ℕ) → Sent gateway (suc place) p → 1 ≤ d → d < behind_from → too_far gateway.strict d ≡ false → Hands (suc last)
     later_one place g l h t =
         let c = later_kind p.kind g.kinded in
         to_class (suc last)
         ∙ sym (row_later normal at (packet_header_at s at) (user_data_at s at) gateway.callers gateway.ours (state_at gateway (suc last)) (in_class c.0) refl d refl
-        (in_time (ap opens r.same_kind ∙ c.1) l h) t)
+        (in_time (packet_header_at s at).kind d (ap opens r.same_kind ∙ c.1) l h) t)
 
     -- 306, or else 307
     pub not_taken : in_class_d p.kind ≡ true → (not_later (packet_header_at s at).kind d ≡ false → too_far gateway.strict d ≡ true) → Drops (suc last)

@@ -9,7 +9,7 @@ use native.Mathlib.Omega.{arith}
 use borrow.Author.Tests.{eqb-true, eqb-false}
 use lib.Dec.{eqb}
 use lib.ListN.{length, get_or, take, drop, length-append}
-use Rattle.links.specs.Table.{too_far}
+use Rattle.link_promises.proofs.Accepted.{never_too_far}
 use Rattle.link_promises.proofs.Outcome.{entry}
 use Rattle.one_story.specs.Sequence.{Packet, Gateway, Sent, SentFrom, Sequence}
 use Rattle.one_story.specs.Run.{Moment, link_of, Run}
@@ -18,7 +18,7 @@ use Rattle.one_story.specs.Losses.{no_packet, packets_at, InOrder, Keeps, Loses,
 use Rattle.one_story.specs.Losses.{SkippingStory, OneLoses, BothLose, NotFarNorLate, LooseMissesOnlyLost, LooseMissesBothLost, NotFarFromTold, StrictNeverSkips}
 use Rattle.one_story.proofs.Pieces.{Next, Placed, before}
 use Rattle.one_story.proofs.Standing.{Stands}
-use Rattle.one_story.proofs.Judged.{Hands, Drops, loose_never_far, ahead, behind, beyond, next_one, earlier_one}
+use Rattle.one_story.proofs.Judged.{Hands, Drops, ahead, behind, beyond, next_one, earlier_one}
 use Rattle.one_story.proofs.Runs.{ltb_by, normal_of, redundant_of, Teller, holds_up, run_holds}
 
 -- ---- places in order
@@ -189,7 +189,7 @@ module _ (gateway : Gateway) (loose : gateway.strict ≡ false) (sent : List Pac
     hands_at (suc last) e h =
         let a = apart m link near in
         ahead gateway n.packet link s at r last place n.sent (omega arith) (omega (arith, a.1))
-        (ap (λ (x : Bool). too_far x (place - last)) loose ∙ loose_never_far (place - last))
+        (never_too_far gateway.strict (place - last) loose)
 
     drops_at : (done : ℕ) → furthest keeps m ≡ done → place < done → Drops gateway n.packet link s at r done
     drops_at zero e h = let none : ⊥ = omega arith in absurd none

@@ -7,8 +7,8 @@ use mathlib.Core.Bool.{Bool, true, false, cond, ◌&&◌, false≢true}
 use mathlib.Core.List.{List, [], ◌∷◌, ◌++◌, append-nil}
 use mathlib.Core.Logic.{◌⊎◌, ⊎_elim}
 use native.Mathlib.Omega.{arith}
-use borrow.Author.Tests.{ltb-true, ltb-false, ne_eqb}
-use lib.Dec.{ltb}
+use borrow.Author.Tests.{ne_eqb}
+use Rattle.std.proofs.lemmas.Bool.{cases_lt}
 use lib.ListN.{length}
 use Rattle.packet.specs.Sizes.{packet_header_size, packet_size}
 use Rattle.packet.specs.Packet.{packet_header_at}
@@ -30,11 +30,7 @@ use Rattle.one_story.proofs.Links.{Brought, at_first, brings_more, one_packet, n
 
 -- a number is less than another, or is not
 pub ltb_by : {A : Type 0} (a b : ℕ) → (a < b → A) → (b ≤ a → A) → A
-ltb_by {A} a b less other = by (ltb a b) refl
-  where
-    by : (t : Bool) → ltb a b ≡ t → A
-    by true e = less (ltb-true a b e)
-    by false e = other (ltb-false a b e)
+ltb_by a b less other = ⊎_elim less other (cases_lt a b)
 
 -- what a step hands up of a packet that reads back is that packet, and a step that answers another number hands up nothing
 pub hands_up : (normal redundant : List ℕ) (link : Bool) (at : ℕ) (state : State) (p : Packet) → Stands link p (of_link link normal redundant) at

@@ -23,6 +23,7 @@ use Rattle.round_trips.specs.Packet.{ReadsBack}
 use Rattle.round_trips.proofs.Packet.{written_reads_back}
 use Rattle.links.specs.Table.{length_at, length_fault, judgeable}
 use Rattle.links.proofs.Judged.{seen, all_there, whole}
+use Rattle.link_promises.proofs.Accepted.{data_or_release}
 use Rattle.one_story.specs.Sequence.{Packet, Gateway, Opens, Kinded, Sent, packet_on, SentIsWritten}
 
 -- the packet reads back at a place of some bytes
@@ -39,10 +40,9 @@ opening_kind gateway p o = by gateway.responder refl
     by false e = rw (o.opening, e) (refl, lit< tt)
 
 pub later_kind : (kind : ℕ) → (kind ≡ data_packet) ⊎ (kind ≡ release_packet) → (in_class_d kind ≡ true) × (opens kind ≡ false) × (kind < 2 ^ 8)
-unfolding in_class_d classes_of opens
-later_kind kind =
-    ⊎_elim (λ e. subst (λ (k : ℕ). (in_class_d k ≡ true) × (opens k ≡ false) × (k < 2 ^ 8)) (sym e) (refl, refl, lit< tt))
-    (λ e. subst (λ (k : ℕ). (in_class_d k ≡ true) × (opens k ≡ false) × (k < 2 ^ 8)) (sym e) (refl, refl, lit< tt))
+later_kind kind k =
+    let c = data_or_release kind k in
+    (c.0, c.1, ⊎_elim (λ (e : kind ≡ data_packet). omega arith) (λ (e : kind ≡ release_packet). omega arith) k)
 
 kind_right : (gateway : Gateway) (place : ℕ) (p : Packet) → Kinded gateway place p
     → (not_class_d p.number p.kind p.user_data ≡ false) × (in_class_d p.kind ≡ true) × (p.kind < 2 ^ 8)

@@ -58,8 +58,13 @@ three_right false = refl
 
 -- ---- the steps
 
-mixed_steps : MixedSteps
+-- what a step is computed by, for the lemmas that compute one: whatever they open, they open by this name
+unfoldable step_opened : Unit {0}
 unfolding length_fault judgeable both_down not_opening not_later too_far link_rows class_d_rows taken_of field_of in_class_d classes_of opens opening_fault least_of not_allowed listed caller_of called_of distance_of modulo bit_in bits_in bytes_in handed_by user_data_of
+step_opened = tt
+
+mixed_steps : MixedSteps
+unfolding step_opened
 mixed_steps = record {
   nothing_whole = (refl, refl);
   opened = (refl, refl);
@@ -72,7 +77,7 @@ mixed_steps = record {
 }
 
 loose_steps : LooseSteps
-unfolding length_fault judgeable both_down not_opening not_later too_far link_rows class_d_rows taken_of field_of in_class_d classes_of opens opening_fault least_of not_allowed listed caller_of called_of distance_of modulo bit_in bits_in bytes_in handed_by user_data_of
+unfolding step_opened
 loose_steps = record {
   first = (refl, refl);
   second = (refl, refl);
@@ -83,7 +88,7 @@ loose_steps = record {
 }
 
 strict_steps : StrictSteps
-unfolding length_fault judgeable both_down not_opening not_later too_far link_rows class_d_rows taken_of field_of in_class_d classes_of opens opening_fault least_of not_allowed listed caller_of called_of distance_of modulo bit_in bits_in bytes_in handed_by user_data_of
+unfolding step_opened
 strict_steps = record {
   first = (refl, refl);
   second = (refl, refl);
@@ -95,7 +100,7 @@ strict_steps = record {
 }
 
 even_steps : EvenSteps
-unfolding length_fault judgeable both_down not_opening not_later too_far link_rows class_d_rows taken_of field_of in_class_d classes_of opens opening_fault least_of not_allowed listed caller_of called_of distance_of modulo bit_in bits_in bytes_in handed_by user_data_of
+unfolding step_opened
 even_steps = record {
   first = (refl, refl);
   first_again = (refl, refl);
@@ -314,7 +319,7 @@ others used packets places = record {
 }
 
 other_steps : Answers (responder true) (others 0 0 []) 0 (others 19 1 (0 ∷ [])) × Answers (responder true) (others 19 1 (0 ∷ [])) 0 (others 31 2 (0 ∷ 1 ∷ []))
-unfolding length_fault judgeable both_down not_opening not_later too_far link_rows class_d_rows taken_of field_of in_class_d classes_of opens opening_fault least_of not_allowed listed caller_of called_of distance_of modulo bit_in bits_in bytes_in handed_by user_data_of
+unfolding step_opened
 other_steps = ((refl, refl), (refl, refl))
 
 other_run : Run (responder true) (λ (normal : Bool). cond normal four other_four) (NotFarBehind 32768) (others 31 2 (0 ∷ 1 ∷ []))

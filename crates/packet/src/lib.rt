@@ -7,7 +7,8 @@ ghost use Rattle.packet.specs.Check.{byte_in};
 ghost use Rattle.packet.specs.Packet.{packet_header_at, check_at, user_data_at, user_data_place_at, flag_of};
 
 // PKT-LAYOUT: the bytes after this field, version, application type, transport number, N/R flag, packet type, check.
-#[derive(Clone, Copy)]
+// Stays: flag and type as they stand on the wire, any byte: 304 and 305 judge them (`link_rows`, `class_d_rows` of links).
+#[derive(Clone, Copy, PartialEq, Eq, Debug)]
 pub struct Header {
     pub length: u16,
     pub version: u8,
@@ -41,13 +42,6 @@ pub const CHECKED_BYTES: usize = 8;
 
 const ALL_ONES: u16 = 0xFFFF;
 
-// A byte's bits, in a number as wide as the register.
-fn wide(x: u8) -> u16
-    ensures { result ≡ x }
-{
-    x as u16
-}
-
 // PKT-CHECK: a byte goes into the register, its eight bits at once. Bit k of `taken` says whether the polynomial is taken away as bit k of
 // the byte goes in; where it is, its term x^12 asks for it once more four bits later. Its terms x^0, x^5 and x^12, at the bits 15, 10 and 3
 // at first, come down by 7 - k: to 8 and 3 above bit k, and to 4 below it.
@@ -55,7 +49,7 @@ fn byte_in(register: u16, byte: u8) -> u16
     ensures { result ≡ byte_in register byte }
 {
     let asked = (register % 256) as u8 ^ byte;
-    let taken = wide(asked ^ (asked << 4));
+    let taken = u16::from(asked ^ (asked << 4));
     (register >> 8) ^ (taken << 8) ^ (taken << 3) ^ (taken >> 4)
 }
 
@@ -64,13 +58,9 @@ pub fn check_at(s: &[u8], at: usize) -> u16
     requires { at + checked_bytes ≤ length s.now }
     ensures { result ≡ check_at s.now at }
 {
-    let mut q: u16 = ALL_ONES;
-    let mut k: usize = 0;
-    while k < CHECKED_BYTES {
-        q = byte_in(q, s[at + k]);
-        k += 1;
-    }
-    q
+    s[at..at + CHECKED_BYTES]
+        .iter()
+        .fold(ALL_ONES, |register, byte| byte_in(register, *byte))
 }
 
 // PKT-LAYOUT: the header of the packet at a place.
@@ -79,13 +69,13 @@ pub fn packet_header_at(s: &[u8], at: usize) -> Header
     ensures { result ≡ packet_header_at s.now at }
 {
     Header {
-        length: field::read16(s, at),
-        version: field::read8(s, at + 2),
-        application: field::read8(s, at + 3),
-        number: field::read16(s, at + 4),
-        flag: field::read8(s, at + 6),
-        kind: field::read8(s, at + 7),
-        check: field::read16(s, at + 8),
+        length: field::number_at(s, at),
+        version: field::number_at(s, at + 2),
+        application: field::number_at(s, at + 3),
+        number: field::number_at(s, at + 4),
+        flag: field::number_at(s, at + 6),
+        kind: field::number_at(s, at + 7),
+        check: field::number_at(s, at + 8),
     }
 }
 
@@ -102,6 +92,6 @@ pub fn user_data_at(s: &[u8], at: usize, counted: u16) -> &[u8]
     ensures { (result.now ≡ user_data_at s.now at) × (result.ref_ptr ≡ user_data_place_at s.entry at) }
 {
     let start = at + PACKET_HEADER_SIZE;
-    let end = at + (counted as usize + LENGTH_SIZE);
+    let end = at + (usize::from(counted) + LENGTH_SIZE);
     &s[start..end]
 }

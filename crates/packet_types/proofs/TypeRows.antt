@@ -1,46 +1,17 @@
--- The one law of the table of packet types, over every column: the row that a look through the table keeps, and a rule of the rows at any type.
+-- The one law of the table of packet types, over every column: a rule of the rows, at any type.
 -- Assumes nothing.
-use Prim.Native.Nat.{ℕ, suc, ◌-◌, ◌≤◌, ◌<◌}
-use mathlib.Core.Path.{◌≡◌, refl, sym, ap, ap₂, ◌∙◌, subst}
+use Prim.Native.Nat.{ℕ, ◌<◌}
+use mathlib.Core.Path.{◌≡◌, refl, sym, subst}
 use mathlib.Core.Bool.{Bool, true, false, not, ◌||◌, ◌&&◌, true≢false}
 use mathlib.Core.List.{List, [], ◌∷◌}
-use native.Mathlib.Omega.{arith}
-use borrow.Author.Tests.{eq-eqb, ne_eqb, not-true}
+use borrow.Author.Tests.{ne_eqb, not-true}
 use lib.Dec.{T, eqb, ltb, ltb→lt}
-use lib.ListN.{length, get_or, drop}
-use lib.Seq.{drop-cons}
+use lib.ListN.{length, get_or}
 use Rattle.rules.specs.Rows.{when◌answer◌else◌}
 use Rattle.field.specs.Field.{field_of}
 use Rattle.packet_types.specs.Types.{au1, au2, data_packet, release_packet, turn_to_redundant, turn_to_normal, life_of_idle, life_of_active}
 use Rattle.packet_types.specs.Types.{rows, kind_of, classes_of, links_of, least_of, has_user_data_of, class_at_of, no_row, row_in, type_row}
 use Rattle.packet_types.specs.Types.{caller_of, called_of, has_class_d, has_link, unwanted_data, numbered_zero, opens, opening_fault}
-
--- ---- a look through a table from its last row to its first
-module _ (kind : ℕ) (table : List (List ℕ)) (i : ℕ) (some : 0 < i) (inside : i ≤ length table) where
-  -- the row before place i
-  abbrev row : List ℕ
-  row = get_or table (i - 1) []
-
-  here : row_in kind (drop (i - 1) table) ≡ (when (eqb (kind_of row) kind) answer row else row_in kind (drop i table))
-  here =
-      ap (row_in kind) (drop-cons table (i - 1) [] (omega arith))
-      ∙ ap (λ (n : ℕ). when (eqb (kind_of row) kind) answer row else row_in kind (drop n table)) (before i some)
-    where
-      before : (i : ℕ) → 0 < i → suc (i - 1) ≡ i
-      before i some = omega arith
-
-  pub kept : kind_of row ≡ kind → row ≡ row_in kind (drop (i - 1) table)
-  kept e = sym (here ∙ simp (eq-eqb (kind_of row) kind e))
-
-  pub passed : (kind_of row ≡ kind → ⊥) → row_in kind (drop i table) ≡ row_in kind (drop (i - 1) table)
-  passed n = sym (here ∙ simp (ne_eqb (kind_of row) kind n))
-
--- all rows of the definition's table were looked at
-pub looked : (kind : ℕ) (table : List (List ℕ)) (found : List ℕ) (i : ℕ) → table ≡ rows → i ≤ 0 → found ≡ row_in kind (drop i table) → found ≡ type_row kind
-looked kind table found i same none e = e ∙ ap₂ (λ (n : ℕ) (t : List (List ℕ)). row_in kind (drop n t)) (start i none) same
-  where
-    start : (i : ℕ) → i ≤ 0 → i ≡ 0
-    start i none = omega arith
 
 -- ---- a rule of a row, tested at every row, holds of the row of any type
 module _ (rule : List ℕ → Bool) where

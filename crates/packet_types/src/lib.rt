@@ -60,6 +60,7 @@ const CLASS_AT: usize = 8;
 const CLASS: usize = 9;
 
 // PKT-TABLE: the packet types, a row to each.
+// Stays: rows of numbers, 1 and 0 for yes and no: 01 asks for a constant table of numbers (FORM-6).
 const TYPES: [[u8; 10]; 8] = [
     // type; class A, class D; normal link, redundant link; least user data, may have user data, numbered 0, place of the class,
     // class
@@ -73,19 +74,16 @@ const TYPES: [[u8; 10]; 8] = [
     [LIFE_OF_ACTIVE, 1, 0, 1, 1, 0, 0, 0, 0, 0],
 ];
 
-// The row of a type, zeros for a type that the table does not have. Every row is looked at, the last of them first, with no way
-// out before the end: the compiler then takes the cells as constants, and builds the table for no packet.
+// The row of a type, zeros for a type that the table does not have.
+// Stays: a loop over every row, the last first, and no `find`: with no way out before the end the compiler takes the cells as
+// constants, and builds the table for no packet.
 fn type_row(kind: u8) -> [u8; 10]
     ensures { result ≡ type_row kind }
 {
-    let types = TYPES;
-    let mut found: [u8; 10] = [0; 10];
-    let mut i: usize = 8;
-    while 0 < i {
-        i -= 1;
-        let row = types[i];
+    let mut found = [0; 10];
+    for row in TYPES.iter().rev() {
         if row[KIND] == kind {
-            found = row;
+            found = *row;
         }
     }
     found
@@ -102,20 +100,19 @@ fn has_class_d(row: [u8; 10]) -> bool
 fn has_link(normal: bool, row: [u8; 10]) -> bool
     ensures { result ≡ has_link normal row }
 {
-    if normal {
-        return row[ON_NORMAL] == 1;
-    }
-    row[ON_REDUNDANT] == 1
+    let cell = if normal {
+        row[ON_NORMAL]
+    } else {
+        row[ON_REDUNDANT]
+    };
+    cell == 1
 }
 
 // PKT-TABLE: user data where the type has none.
 fn unwanted_data(row: [u8; 10], data: &[u8]) -> bool
     ensures { result ≡ unwanted_data row «data».now }
 {
-    if row[USER_DATA] == 0 {
-        return 0 < data.len();
-    }
-    false
+    row[USER_DATA] == 0 && !data.is_empty()
 }
 
 // TYPE-1, TYPE-2: the column of the types numbered 0.
@@ -144,16 +141,10 @@ pub fn opening_fault(kind: u8, number: u16, data: &[u8]) -> bool
     ensures { result ≡ opening_fault kind number «data».now }
 {
     let row = type_row(kind);
-    if number != 0 {
-        return true;
-    }
-    if data.len() < row[LEAST] as usize {
-        return true;
-    }
-    if row[CLASS_AT] == 0 {
-        return false;
-    }
-    field::read8(data, row[CLASS_AT] as usize) != row[CLASS]
+    number != 0
+        || data.len() < usize::from(row[LEAST])
+        || row[CLASS_AT] != 0
+            && field::number_at::<u8>(data, usize::from(row[CLASS_AT])) != row[CLASS]
 }
 
 // PKT-311: no packet of class D. The table is asked for the link and for user data too; it has every type in class D on both
@@ -162,17 +153,8 @@ pub fn not_class_d(normal: bool, number: u16, kind: u8, data: &[u8]) -> bool
     ensures { result ≡ not_class_d number kind «data».now }
 {
     let row = type_row(kind);
-    if !has_class_d(row) {
-        return true;
-    }
-    if !has_link(normal, row) {
-        return true;
-    }
-    if unwanted_data(row, data) {
-        return true;
-    }
-    if numbered_zero(row) {
-        return opening_fault(kind, number, data);
-    }
-    false
+    !has_class_d(row)
+        || !has_link(normal, row)
+        || unwanted_data(row, data)
+        || numbered_zero(row) && opening_fault(kind, number, data)
 }

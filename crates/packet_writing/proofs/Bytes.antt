@@ -15,6 +15,10 @@ use Rattle.packet.specs.Check.{check_of}
 use Rattle.packet.specs.Packet.{packet_widths, check_at}
 use Rattle.packet_writing.specs.Writing.{checked_row, check_for}
 
+-- a field of a number that is another one
+pub put_as : (l l' : List ℕ) (at w x y : ℕ) → l' ≡ sets l at (bytes_of w x) → x ≡ y → l' ≡ sets l at (bytes_of w y)
+put_as l l' at w x y e f = e ∙ ap (λ (n : ℕ). sets l at (bytes_of w n)) f
+
 module _ (counted version application number flag kind : ℕ) where
   abbrev pub six : List ℕ
   six = counted ∷ version ∷ application ∷ number ∷ flag ∷ kind ∷ []

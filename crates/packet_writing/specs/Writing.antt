@@ -1,6 +1,6 @@
 -- Writing a packet: its bytes, which packets are refused, and what is written.
 -- Assumes nothing.
-use Rattle.std.specs.Prelude.{ℕ, ◌+◌, Bool, List, [], ◌∷◌, ◌++◌, eqb, ltb, length, take}
+use Rattle.std.specs.Prelude.{ℕ, ◌+◌, Bool, List, [], ◌∷◌, ◌++◌, eqb, ltb, length, take, Option, Some, None}
 use Rattle.rules.specs.Rows.{when◌answer◌else◌}
 use Rattle.field.specs.Row.{row_of}
 use Rattle.packet.specs.Sizes.{packet_header_size, least_length, most_user_data, checked_fields}
@@ -8,6 +8,8 @@ use Rattle.packet.specs.Check.{check_of}
 use Rattle.packet.specs.Packet.{packet_widths, flag_of}
 use Rattle.packet_types.specs.Types.{not_class_d}
 use Rattle.packet_writing.specs.declared.Written.{Written}
+use Rattle.packet_writing.specs.declared.Refusal.{Refusal}
+use Rattle.packet_writing.specs.declared.Refusal.TheVariants.{NotClassD, TooLong, NoRoom}
 
 -- PKT-LAYOUT: the bytes of the fields before the check
 abbrev pub checked_row : ℕ → ℕ → ℕ → ℕ → ℕ → ℕ → List ℕ
@@ -30,6 +32,17 @@ packet_bytes normal version application number kind user_data =
     (checked_of normal version application number kind user_data
     ++ (check_for (checked_of normal version application number kind user_data) ∷ []))
     ++ user_data
+
+-- PKT-311, PKT-312, PKT-313: the number of each refusal
+abbrev pub refusal_number : Refusal → ℕ
+refusal_number NotClassD = 311
+refusal_number TooLong = 312
+refusal_number NoRoom = 313
+
+-- PKT-0: and of none
+abbrev pub answer_of : Option Refusal → ℕ
+answer_of None = 0
+answer_of (Some refusal) = refusal_number refusal
 
 -- PKT-311, PKT-312, PKT-313 in PKT-ORDER: the answer for a packet and an out buffer of `room` bytes.
 unfoldable pub write_answer : ℕ → ℕ → ℕ → List ℕ → ℕ

@@ -3,3 +3,5 @@ pub mod Reaches
 pub mod Agree
 pub mod Whole
 pub mod Quiet
+pub mod Loop
+pub mod Between

@@ -3,11 +3,10 @@
 use Prim.Native.Nat.{ℕ, zero, suc, ◌-◌, ◌≤◌}
 use mathlib.Core.Path.{◌≡◌, refl, sym, ap, subst, ◌∙◌}
 use mathlib.Core.Bool.{Bool, true, false}
-use mathlib.Core.List.{List, [], ◌++◌}
+use mathlib.Core.List.{List, [], ◌++◌, append-nil}
 use native.Mathlib.Omega.{arith}
 use lib.ListN.{length, length-append}
 use Rattle.rules.specs.Rows.{when◌answer◌else◌}
-use Rattle.text.specs.Text.{PutAt}
 use Rattle.text.proofs.Puts.{and_then}
 use Rattle.window.specs.Window.{Within, left_of, unread, used_of}
 use Rattle.window.specs.declared.Window.{Window}
@@ -16,72 +15,70 @@ use Rattle.pieces.specs.Machine.{Turn, Machine, Lawful}
 use Rattle.pieces.specs.Pieces.{Reach, waits, waits_at, reached_by, turned, advance_in, advance_of, reach_of, AdvancedTo}
 use Rattle.pieces.proofs.Turns.{has_room, one_more_lem, no_more}
 
-abbrev reach_with : (m : Machine) → m.State → Window → List ℕ → List ℕ → Reach m.State
+abbrev reach_with : {State : Type 0} (m : Machine State) → State → Window → List ℕ → List ℕ → Reach State
 reach_with m p w text lent = record { state = p; window = w; text = text; lent = lent }
 
-module _ (m : Machine) (laws : Lawful m) (buffer : List ℕ) (first : Reach m.State) (before : List ℕ) (place : ℕ) where
-  pub record Reaches (lent out : List ℕ) (at : ℕ) (p : m.State) (w : Window) : Type 0 where
+module _ {State : Type 0} (m : Machine State) (laws : Lawful m) (size : ℕ) (buffer : List ℕ) (first : Reach State) (before : List ℕ) where
+  pub record Reaches (lent out : List ℕ) (p : State) (w : Window) : Type 0 where
     pub text : List ℕ
-    pub put : PutAt before place text out at
-    pub same : advance_of m (length before - place) buffer first ≡ advance_of m (length before - place) buffer (reach_with m p w text lent)
+    pub put : out ≡ before ++ text
+    pub same : advance_of m (size - length before) buffer first ≡ advance_of m (size - length before) buffer (reach_with m p w text lent)
 
   -- the room that is left
-  room_left : {text out : List ℕ} {at : ℕ} → PutAt before place text out at → length out ≡ length before
-      → length out - at ≡ length before - place - length text
-  room_left put same = omega (arith, put.place)
+  room_left : (text : List ℕ) {out : List ℕ} → out ≡ before ++ text → size - length out ≡ size - length before - length text
+  room_left text put = omega (arith, ap length put, length-append before text)
 
   -- one turn more, of the machine's own
-  pub reaches_on : {lent lent_after out after : List ℕ} {at next : ℕ} {p q : m.State} {w left : Window}
-      → Reaches lent out at p w → length out ≡ length before → waits m (m.stopped p) w (length out - at) ≡ false
-      → (t : Turn m.State) → m.turn p (unread buffer w) ≡ t → q ≡ t.next → left ≡ used_of t.used w → lent_after ≡ t.lent lent
-      → PutAt out at t.text after next → Reaches lent_after after next q left
-  reaches_on {lent} {lent_after} {out} {after} {at} {next} {p} {q} {w} {left} reached same goes t is state window written put =
-      let room = length before - place in
+  pub reaches_on : {lent lent_after out after : List ℕ} {p q : State} {w left : Window}
+      → Reaches lent out p w → waits m (m.stopped p) w (size - length out) ≡ false
+      → (t : Turn State) → m.turn p (unread buffer w) ≡ t → q ≡ t.next → left ≡ used_of t.used w → lent_after ≡ t.lent lent
+      → after ≡ out ++ t.text → Reaches lent_after after q left
+  reaches_on {lent} {lent_after} {out} {after} {p} {q} {w} {left} reached goes t is state window written put =
+      let room = size - length before in
       let text = reached.text ++ t.text in
       let x = reach_with m p w reached.text lent in
       let goes' : waits_at m room x ≡ false =
-      subst (λ (n : ℕ). waits m (m.stopped p) w n ≡ false) (room_left reached.put same) goes in
+      subst (λ (n : ℕ). waits m (m.stopped p) w n ≡ false) (room_left reached.text reached.put) goes in
       record {
         text = text;
-        put = and_then reached.put put;
+        put = and_then before reached.text t.text reached.put put;
         same =
-            reached.same ∙ one_more_lem m laws room buffer x goes' ∙ ap (λ (u : Turn m.State). advance_of m room buffer (reached_by m x u)) is
-            ∙ ap (λ (p : m.State). advance_of m room buffer (reach_with m p (used_of t.used w) text (t.lent lent))) (sym state)
+            reached.same ∙ one_more_lem m laws room buffer x goes' ∙ ap (λ (u : Turn State). advance_of m room buffer (reached_by m x u)) is
+            ∙ ap (λ (p : State). advance_of m room buffer (reach_with m p (used_of t.used w) text (t.lent lent))) (sym state)
             ∙ ap (λ (v : Window). advance_of m room buffer (reach_with m q v text (t.lent lent))) (sym window)
             ∙ ap (λ (l : List ℕ). advance_of m room buffer (reach_with m q left text l)) (sym written);
       }
 
-  pub stands : {lent out : List ℕ} {at : ℕ} {p : m.State} {w : Window} (reached : Reaches lent out at p w) → length out ≡ length before
-      → waits m (m.stopped p) w (length out - at) ≡ true → advance_of m (length before - place) buffer first ≡ reach_with m p w reached.text lent
-  stands {lent} {out} {at} {p} {w} reached same waiting =
-      reached.same ∙ no_more m laws (length before - place) buffer (reach_with m p w reached.text lent)
-      (subst (λ (n : ℕ). waits m (m.stopped p) w n ≡ true) (room_left reached.put same) waiting)
+  pub stands : {lent out : List ℕ} {p : State} {w : Window} (reached : Reaches lent out p w)
+      → waits m (m.stopped p) w (size - length out) ≡ true → advance_of m (size - length before) buffer first ≡ reach_with m p w reached.text lent
+  stands {lent} {out} {p} {w} reached waiting =
+      reached.same ∙ no_more m laws (size - length before) buffer (reach_with m p w reached.text lent)
+      (subst (λ (n : ℕ). waits m (m.stopped p) w n ≡ true) (room_left reached.text reached.put) waiting)
 
-module _ (m : Machine) (laws : Lawful m) where
-  pub reaches_first : (buffer : List ℕ) (p : m.State) (w : Window) (lent before : List ℕ) (place : ℕ)
-      → Reaches m laws buffer (reach_of m p w lent) before place lent before place p w
-  reaches_first buffer p w lent before place = record { text = []; put = record { place = omega arith; bytes = refl }; same = refl }
+module _ {State : Type 0} (m : Machine State) (laws : Lawful m) where
+  pub reaches_first : (size : ℕ) (buffer : List ℕ) (p : State) (w : Window) (lent before : List ℕ)
+      → Reaches m laws size buffer (reach_of m p w lent) before lent before p w
+  reaches_first size buffer p w lent before = record { text = []; put = sym (append-nil before); same = refl }
 
-  pub advanced_to : (buffer : List ℕ) (p₀ : m.State) (w₀ : Window) (lent₀ before : List ℕ) (place : ℕ) {lent out : List ℕ} {at : ℕ}
-      {p : m.State} {w : Window}
-      → Reaches m laws buffer (reach_of m p₀ w₀ lent₀) before place lent out at p w → length out ≡ length before
-      → waits m (m.stopped p) w (length out - at) ≡ true → AdvancedTo m buffer p₀ w₀ lent₀ before place lent out p w at
-  advanced_to buffer p₀ w₀ lent₀ before place {lent} {out} {at} reached same waiting =
-      let there = stands m laws buffer (reach_of m p₀ w₀ lent₀) before place reached same waiting in
+  pub advanced_to : (size : ℕ) (buffer : List ℕ) (p₀ : State) (w₀ : Window) (lent₀ before : List ℕ) {lent out : List ℕ} {p : State} {w : Window}
+      → Reaches m laws size buffer (reach_of m p₀ w₀ lent₀) before lent out p w → waits m (m.stopped p) w (size - length out) ≡ true
+      → AdvancedTo m size buffer p₀ w₀ lent₀ before lent out p w
+  advanced_to size buffer p₀ w₀ lent₀ before {lent} {out} reached waiting =
+      let there = stands m laws size buffer (reach_of m p₀ w₀ lent₀) before reached waiting in
       record {
-        state = sym (ap (λ (x : Reach m.State). x.state) there);
-        window = sym (ap (λ (x : Reach m.State). x.window) there);
-        put = subst (λ (x : Reach m.State). PutAt before place x.text out at) (sym there) reached.put;
-        leaves = sym (ap (λ (x : Reach m.State). x.lent) there);
+        state = sym (ap (λ (x : Reach State). x.state) there);
+        window = sym (ap (λ (x : Reach State). x.window) there);
+        put = subst (λ (x : Reach State). out ≡ before ++ x.text) (sym there) reached.put;
+        leaves = sym (ap (λ (x : Reach State). x.lent) there);
       }
 
   -- ---- what turns keep: the window in its buffer, the text in its room, and whether the file has ended
-  record Kept (room : ℕ) (buffer : List ℕ) (ended : Bool) (x : Reach m.State) : Type 0 where
+  record Kept (room : ℕ) (buffer : List ℕ) (ended : Bool) (x : Reach State) : Type 0 where
     pub lies : Within x.window (length buffer)
     pub fits : length x.text ≤ room
     pub stays : x.window.ended ≡ ended
 
-  kept_turned : (room : ℕ) (buffer : List ℕ) (ended : Bool) (x : Reach m.State) → waits_at m room x ≡ false
+  kept_turned : (room : ℕ) (buffer : List ℕ) (ended : Bool) (x : Reach State) → waits_at m room x ≡ false
       → Kept room buffer ended x → Kept room buffer ended (turned m buffer x)
   kept_turned room buffer ended x goes kept =
       let s = unread buffer x.window in
@@ -100,7 +97,7 @@ module _ (m : Machine) (laws : Lawful m) where
         stays = kept.stays;
       }
 
-  kept_advanced : (n room : ℕ) (buffer : List ℕ) (ended : Bool) (x : Reach m.State) → Kept room buffer ended x
+  kept_advanced : (n room : ℕ) (buffer : List ℕ) (ended : Bool) (x : Reach State) → Kept room buffer ended x
       → Kept room buffer ended (advance_in m n room buffer x)
   unfolding advance_in
   kept_advanced zero room buffer ended x kept = kept
@@ -108,25 +105,21 @@ module _ (m : Machine) (laws : Lawful m) where
       both (waits_at m room x) x (advance_in m n room buffer (turned m buffer x)) (λ _. kept)
       (λ goes. kept_advanced n room buffer ended (turned m buffer x) (kept_turned room buffer ended x goes kept))
     where
-      both : (b : Bool) (y z : Reach m.State) → (b ≡ true → Kept room buffer ended y) → (b ≡ false → Kept room buffer ended z)
+      both : (b : Bool) (y z : Reach State) → (b ≡ true → Kept room buffer ended y) → (b ≡ false → Kept room buffer ended z)
           → Kept room buffer ended (when b answer y else z)
       both true y z f g = f refl
       both false y z f g = g refl
 
-  module _ {buffer : List ℕ} {p : m.State} {w : Window} {lent before : List ℕ} {at : ℕ} {lent_after after : List ℕ} {q : m.State} {v : Window}
-      {next : ℕ} (advanced : AdvancedTo m buffer p w lent before at lent_after after q v next) (lies : Within w (length buffer)) where
-    kept : Kept (length before - at) buffer w.ended (advance_of m (length before - at) buffer (reach_of m p w lent))
+  module _ {size : ℕ} {buffer : List ℕ} {p : State} {w : Window} {lent before lent_after after : List ℕ} {q : State} {v : Window}
+      (advanced : AdvancedTo m size buffer p w lent before lent_after after q v) (lies : Within w (length buffer)) where
+    kept : Kept (size - length before) buffer w.ended (advance_of m (size - length before) buffer (reach_of m p w lent))
     kept =
-        kept_advanced (suc (left_of w)) (length before - at) buffer w.ended (reach_of m p w lent)
+        kept_advanced (suc (left_of w)) (size - length before) buffer w.ended (reach_of m p w lent)
         (record { lies = lies; fits = omega arith; stays = refl })
 
     -- the window lies in its buffer
     pub advanced_lies : Within v (length buffer)
     advanced_lies = subst (λ (u : Window). Within u (length buffer)) (sym advanced.window) kept.lies
-
-    -- the text has room
-    pub advanced_within : at ≤ length before → next ≤ length before
-    advanced_within h = omega (arith, advanced.put.place, kept.fits)
 
     -- turns change nothing of a window but where it starts
     pub ended_stays : v.ended ≡ w.ended

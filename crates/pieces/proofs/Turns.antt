@@ -15,7 +15,7 @@ use Rattle.pieces.specs.Machine.{Machine, Lawful, prints_in, GoesOn}
 use Rattle.pieces.specs.Pieces.{Reach, waits, waits_at, turned, advance_in, advance_of, TurnsUntilItWaits}
 
 -- the turns that are left at the most, with so many bytes: none after a stop
-abbrev turns_left : Bool → ℕ → ℕ
+abbrev pub turns_left : Bool → ℕ → ℕ
 turns_left stopped bytes = cond stopped 0 (suc bytes)
 
 left_at_most : (stopped : Bool) (bytes : ℕ) → turns_left stopped bytes ≤ suc bytes
@@ -35,7 +35,7 @@ goes_alike false x same = same refl
 pub at_most_left : (buffer : List ℕ) (w : Window) → length (unread buffer w) ≤ left_of w
 at_most_left buffer w = omega (arith, length-take (left_of w) (drop w.from buffer))
 
-module _ (m : Machine) where
+module _ {State : Type 0} (m : Machine State) where
   -- after a stop no turn is taken
   pub stopped_waits : (stopped : Bool) (w : Window) (room : ℕ) → stopped ≡ true → waits m stopped w room ≡ true
   unfolding waits
@@ -66,9 +66,9 @@ module _ (m : Machine) where
       by false true full e = absurd (false≢true (sym e))
       by false false full e = e
 
-module _ (m : Machine) (laws : Lawful m) where
+module _ {State : Type 0} (m : Machine State) (laws : Lawful m) where
   -- after a turn fewer turns are left
-  fewer_left : (p : m.State) (s : List ℕ) (bytes : ℕ) → length s ≤ bytes
+  fewer_left : (p : State) (s : List ℕ) (bytes : ℕ) → length s ≤ bytes
       → turns_left (m.stopped (m.turn p s).next) (bytes - (m.turn p s).used) ≤ bytes
   fewer_left p s bytes h = by (m.stopped (m.turn p s).next) refl
     where
@@ -77,7 +77,7 @@ module _ (m : Machine) (laws : Lawful m) where
       by false e = omega (arith, laws.uses_no_more p s, laws.uses_or_stops p s e)
 
   -- more turns than are left change nothing
-  enough : (n k : ℕ) (p : m.State) (rest : List ℕ) → turns_left (m.stopped p) (length rest) ≤ n
+  enough : (n k : ℕ) (p : State) (rest : List ℕ) → turns_left (m.stopped p) (length rest) ≤ n
       → turns_left (m.stopped p) (length rest) ≤ k → prints_in m n p rest ≡ prints_in m k p rest
   unfolding prints_in
   enough zero zero p rest h g = refl
@@ -104,14 +104,14 @@ module _ (m : Machine) (laws : Lawful m) where
       (enough (length rest) (suc (length left)) next left (rw size fewer) (left_at_most (m.stopped next) (length left)))
 
   -- after a turn on the bytes at hand fewer turns are left
-  fewer_at_hand : (buffer : List ℕ) (x : Reach m.State)
+  fewer_at_hand : (buffer : List ℕ) (x : Reach State)
       → turns_left (m.stopped (turned m buffer x).state) (left_of (turned m buffer x).window) ≤ left_of x.window
   fewer_at_hand buffer x =
       let used = (m.turn x.state (unread buffer x.window)).used in
       let same : left_of x.window - used ≡ left_of (used_of used x.window) = omega arith in
       rw (← same) (fewer_left x.state (unread buffer x.window) (left_of x.window) (at_most_left buffer x.window))
 
-  enough_at_hand : (n k room : ℕ) (buffer : List ℕ) (x : Reach m.State)
+  enough_at_hand : (n k room : ℕ) (buffer : List ℕ) (x : Reach State)
       → turns_left (m.stopped x.state) (left_of x.window) ≤ n → turns_left (m.stopped x.state) (left_of x.window) ≤ k
       → advance_in m n room buffer x ≡ advance_in m k room buffer x
   unfolding advance_in
@@ -132,12 +132,12 @@ module _ (m : Machine) (laws : Lawful m) where
   unfolding advance_in
   turns_until_it_waits room buffer x =
       let after = turned m buffer x in
-      ap (λ (y : Reach m.State). when waits_at m room x answer x else y)
+      ap (λ (y : Reach State). when waits_at m room x answer x else y)
       (enough_at_hand (left_of x.window) (suc (left_of after.window)) room buffer after (fewer_at_hand buffer x)
       (left_at_most (m.stopped after.state) (left_of after.window)))
 
   -- one turn more, or none
-  module _ (room : ℕ) (buffer : List ℕ) (x : Reach m.State) where
+  module _ (room : ℕ) (buffer : List ℕ) (x : Reach State) where
     pub one_more_lem : waits_at m room x ≡ false → advance_of m room buffer x ≡ advance_of m room buffer (turned m buffer x)
     one_more_lem e = turns_until_it_waits room buffer x ∙ ap (λ (b : Bool). when b answer x else advance_of m room buffer (turned m buffer x)) e
 

@@ -10,8 +10,8 @@ use lib.Dec.{ltb}
 use lib.ListN.{length, take, drop}
 use lib.Seq.{drop-append-le}
 use Rattle.rules.specs.Rows.{when◌answer◌else◌}
-use Rattle.text.specs.Text.{PutAt, place_of}
-use Rattle.text.proofs.Places.{front_put, Placed, placed, put_behind}
+use Rattle.text.specs.Text.{held_of}
+use Rattle.text.proofs.Places.{Placed, placed, put_behind}
 use Rattle.window.specs.Window.{Within, empty_window, left_of, unread, low_of, used_of, was_read, ToppedUp}
 use Rattle.window.specs.declared.Window.{Window}
 use Rattle.window.specs.declared.Refilled.{Refilled}
@@ -34,7 +34,7 @@ use Rattle.pieces.specs.Pieces.{
 }
 use Rattle.pieces.specs.Pieces.Runs.{starts, refills, advances}
 use Rattle.pieces.proofs.Turns.{goes_on_lem, not_stopped, not_low}
-use Rattle.pieces.proofs.Reaches.{advanced_lies, advanced_within, ended_stays}
+use Rattle.pieces.proofs.Reaches.{advanced_lies, ended_stays}
 
 -- a window that is topped up lies in its buffer
 pub topped_lies : (most : ℕ) (before : List ℕ) (w : Window) (after : List ℕ) (r : Refilled) → length after ≡ length before
@@ -47,23 +47,14 @@ topped_lies most before w after r size up lies = by (low_of most w) refl
         let window = ap (λ (q : Refilled). q.window) (up.not_low e).0 in
         subst (λ (v : Window). Within v (length after)) (sym window) (lies.0, omega (arith, lies.1, size))
 
--- the place that is made lies in its out buffer
-place_fits : (most size at : ℕ) → at ≤ size → place_of most size at ≤ size
-unfolding place_of
-place_fits most size at h = by (ltb (size - at) most)
-  where
-    by : (full : Bool) → (when full answer 0 else at) ≤ size
-    by true = omega arith
-    by false = h
-
-module _ (m : Machine) (laws : Lawful m) where
+module _ {State : Type 0} (m : Machine State) (laws : Lawful m) where
   -- a turn on bytes that hold the most bytes that it looks at, or all that is left, is the turn on all that is left
-  same_turn : (p : m.State) (s rest : List ℕ) → (m.most_seen ≤ length s) ⊎ (rest ≡ []) → m.turn p (s ++ rest) ≡ m.turn p s
+  same_turn : (p : State) (s rest : List ℕ) → (m.most_seen ≤ length s) ⊎ (rest ≡ []) → m.turn p (s ++ rest) ≡ m.turn p s
   same_turn p s rest (inr e) = ap (m.turn p) (ap (λ (l : List ℕ). s ++ l) e ∙ append-nil s)
   same_turn p s rest (inl many) = laws.sees_no_more p s rest many
 
   -- what is printed before a stop
-  going : (p : m.State) (rest : List ℕ) → m.stopped p ≡ false
+  going : (p : State) (rest : List ℕ) → m.stopped p ≡ false
       → prints_from m p rest ≡ (m.turn p rest).text ++ prints_from m (m.turn p rest).next (drop (m.turn p rest).used rest)
   going p rest e =
       let t = m.turn p rest in
@@ -71,14 +62,14 @@ module _ (m : Machine) (laws : Lawful m) where
 
   -- A reach from which the rest of a text is printed: what it printed, and what is printed from there on for the bytes at hand and those
   -- still to be read.
-  record Prints (buffer to_read text : List ℕ) (x : Reach m.State) : Type 0 where
+  record Prints (buffer to_read text : List ℕ) (x : Reach State) : Type 0 where
     lies : Within x.window (length buffer)
     all : x.window.ended ≡ true → to_read ≡ []
     whole : x.text ++ prints_from m x.state (unread buffer x.window ++ to_read) ≡ text
 
   module _ (buffer to_read text : List ℕ) where
     -- it holds after one turn more
-    prints_turned : (room : ℕ) (x : Reach m.State) → waits m (m.stopped x.state) x.window room ≡ false → Prints buffer to_read text x
+    prints_turned : (room : ℕ) (x : Reach State) → waits m (m.stopped x.state) x.window room ≡ false → Prints buffer to_read text x
         → Prints buffer to_read text (turned m buffer x)
     prints_turned room x goes holds =
         let p = x.state in
@@ -99,26 +90,26 @@ module _ (m : Machine) (laws : Lawful m) where
               append_assoc x.text t.text (prints_from m t.next (unread buffer (used_of t.used w) ++ to_read))
               ∙ ap (λ (l : List ℕ). x.text ++ l)
               (sym (going p (s ++ to_read) (not_stopped m (m.stopped p) w room goes)
-              ∙ ap (λ (u : Turn m.State). u.text ++ prints_from m u.next (drop u.used (s ++ to_read))) (same_turn p s to_read seen)
+              ∙ ap (λ (u : Turn State). u.text ++ prints_from m u.next (drop u.used (s ++ to_read))) (same_turn p s to_read seen)
               ∙ ap (λ (l : List ℕ). t.text ++ prints_from m t.next l) left))
               ∙ holds.whole;
         }
 
     -- and after as many as there are
-    prints_advanced : (n room : ℕ) (x : Reach m.State) → Prints buffer to_read text x → Prints buffer to_read text (advance_in m n room buffer x)
+    prints_advanced : (n room : ℕ) (x : Reach State) → Prints buffer to_read text x → Prints buffer to_read text (advance_in m n room buffer x)
     unfolding advance_in
     prints_advanced zero room x holds = holds
     prints_advanced (suc n) room x holds =
         both (waits_at m room x) x (advance_in m n room buffer (turned m buffer x)) (λ _. holds)
         (λ goes. prints_advanced n room (turned m buffer x) (prints_turned (room - length x.text) x goes holds))
       where
-        both : (b : Bool) (y z : Reach m.State) → (b ≡ true → Prints buffer to_read text y) → (b ≡ false → Prints buffer to_read text z)
+        both : (b : Bool) (y z : Reach State) → (b ≡ true → Prints buffer to_read text y) → (b ≡ false → Prints buffer to_read text z)
             → Prints buffer to_read text (when b answer y else z)
         both true y z f g = f refl
         both false y z f g = g refl
 
   -- a run through a window prints what is left to print
-  prints : (file : List ℕ) {buffer : List ℕ} {w : Window} {to_read : List ℕ} {p : m.State} {printed : List ℕ} → Runs m file buffer w to_read p printed
+  prints : (file : List ℕ) {buffer : List ℕ} {w : Window} {to_read : List ℕ} {p : State} {printed : List ℕ} → Runs m file buffer w to_read p printed
       → Prints buffer to_read (prints_for m file) (record { state = p; window = w; text = printed; lent = [] })
   prints file (starts buffer) = record { lies = (omega arith, omega arith); all = λ e. absurd (false≢true e); whole = refl }
   prints file (refills {buffer} {w} {to_read} {p} {printed} run after r refilled size rest next all) =
@@ -157,82 +148,77 @@ module _ (m : Machine) (laws : Lawful m) where
   -- ---- the pieces of a program
 
   -- before the first piece: the heading is put
-  pub running_first : (buffer : List ℕ) {w : Window} {p : m.State} {before out : List ℕ} {at : ℕ} → w ≡ empty_window → p ≡ m.first
-      → PutAt before 0 m.heading out at → at ≤ length before → Running m buffer w p out at
-  running_first buffer {w} {p} {before} {out} {at} empty start put within = record {
+  pub running_first : (buffer : List ℕ) {w : Window} {p : State} {out : List ℕ} → w ≡ empty_window → p ≡ m.first → out ≡ m.heading
+      → Running m buffer w p out
+  running_first buffer {w} {p} {out} empty start put = record {
     read = [];
     written = [];
     runs = λ rest _.
-        subst (λ (l : List ℕ). Runs m rest buffer w rest p l) (sym (front_put put within))
+        subst (λ (l : List ℕ). Runs m rest buffer w rest p l) (sym put)
         (subst (λ (v : Window). Runs m rest buffer v rest p m.heading) (sym empty)
-        (subst (λ (q : m.State). Runs m rest buffer empty_window rest q m.heading) (sym start) (starts buffer)));
+        (subst (λ (q : State). Runs m rest buffer empty_window rest q m.heading) (sym start) (starts buffer)));
   }
 
   -- where a window is topped up, the bytes that were read are those of the refill
-  topped_runs : (before : List ℕ) (w : Window) (p : m.State) (out : List ℕ) (at : ℕ) (after : List ℕ) (r : Refilled) → length after ≡ length before
-      → ToppedUp m.most_seen before w after r → Running m before w p out at → Running m after r.window p out at
-  topped_runs before w p out at after r size up was = by (low_of m.most_seen w) refl
+  topped_runs : (before : List ℕ) (w : Window) (p : State) (out after : List ℕ) (r : Refilled) → length after ≡ length before
+      → ToppedUp m.most_seen before w after r → Running m before w p out → Running m after r.window p out
+  topped_runs before w p out after r size up was = by (low_of m.most_seen w) refl
     where
-      by : (low : Bool) → low_of m.most_seen w ≡ low → Running m after r.window p out at
+      by : (low : Bool) → low_of m.most_seen w ≡ low → Running m after r.window p out
       by false e =
           let same = up.not_low e in
           let window = ap (λ (q : Refilled). q.window) same.0 in
-          subst (λ (v : Window). Running m after v p out at) (sym window) (subst (λ (l : List ℕ). Running m l w p out at) (sym same.1) was)
+          subst (λ (v : Window). Running m after v p out) (sym window) (subst (λ (l : List ℕ). Running m l w p out) (sym same.1) was)
       by true e = record {
         read = was.read ++ was_read w after r;
         written = was.written;
         runs = λ rest all.
-            subst (λ (l : List ℕ). Runs m l after r.window rest p (was.written ++ take at out)) (sym (append_assoc was.read (was_read w after r) rest))
+            subst (λ (l : List ℕ). Runs m l after r.window rest p (was.written ++ out)) (sym (append_assoc was.read (was_read w after r) rest))
             (refills (was.runs (was_read w after r ++ rest) (λ ended. absurd (false≢true (sym (low_not_ended m.most_seen w e) ∙ ended)))) after r (up.low e) size rest refl all);
       }
 
   -- the run after the turns of a piece
-  advanced_runs : (buffer : List ℕ) (p : m.State) (w : Window) (lent out : List ℕ) (place : ℕ) (lent_after out_after : List ℕ) (q : m.State) (v : Window)
-      (next : ℕ) → AdvancedTo m buffer p w lent out place lent_after out_after q v next → Within w (length buffer) → place ≤ length out
-      → (at : ℕ) (was : Running m buffer w p out at) → Placed was.written out at place → Running m buffer v q out_after next
-  advanced_runs buffer p w lent out place lent_after out_after q v next advanced lies room at was placing =
-      let reached = piece_from m (length out - place) buffer p w lent in
+  advanced_runs : (size : ℕ) (buffer : List ℕ) (p : State) (w : Window) (lent held lent_after out_after : List ℕ) (q : State) (v : Window)
+      → AdvancedTo m size buffer p w lent held lent_after out_after q v → Within w (length buffer)
+      → (out : List ℕ) (was : Running m buffer w p out) → Placed was.written out held → Running m buffer v q out_after
+  advanced_runs size buffer p w lent held lent_after out_after q v advanced lies out was placing =
+      let room = size - length held in
+      let reached = piece_from m room buffer p w lent in
       record {
         read = was.read;
         written = placing.before;
         runs = λ rest all.
-            let run = advances (was.runs rest (λ ended. all (ended_stays m laws advanced lies ∙ ended))) (length out - place) lent in
-            subst (λ (u : Window). Runs m (was.read ++ rest) buffer u rest q (placing.before ++ take next out_after)) (sym advanced.window)
-            (subst (λ (u : m.State). Runs m (was.read ++ rest) buffer reached.window rest u (placing.before ++ take next out_after)) (sym advanced.state)
+            let run = advances (was.runs rest (λ ended. all (ended_stays m laws advanced lies ∙ ended))) room lent in
+            subst (λ (u : Window). Runs m (was.read ++ rest) buffer u rest q (placing.before ++ out_after)) (sym advanced.window)
+            (subst (λ (u : State). Runs m (was.read ++ rest) buffer reached.window rest u (placing.before ++ out_after)) (sym advanced.state)
             (subst (λ (l : List ℕ). Runs m (was.read ++ rest) buffer reached.window rest reached.state l)
-            (sym (put_behind placing advanced.put (advanced_within m laws advanced lies room))) run));
+            (sym (put_behind was.written out held reached.text placing advanced.put)) run));
       }
 
-  module _ (before : List ℕ) (w : Window) (p : m.State) (lent out : List ℕ) (at : ℕ) (after lent_after out_after : List ℕ) (q : m.State)
-      (v : Window) (next : ℕ) (size : length after ≡ length before) (piece : PieceOf m before w p lent out at after lent_after out_after q v next)
-      (lies : Within w (length before)) (within : at ≤ length out) where
+  module _ (size : ℕ) (before : List ℕ) (w : Window) (p : State) (lent out after lent_after out_after : List ℕ) (q : State) (v : Window)
+      (same : length after ≡ length before) (piece : PieceOf m size before w p lent out after lent_after out_after q v)
+      (lies : Within w (length before)) where
     topped : Within piece.topped.window (length after)
-    topped = topped_lies m.most_seen before w after piece.topped size piece.up lies
-
-    place_within : place_of m.most_text (length out) at ≤ length out
-    place_within = place_fits m.most_text (length out) at within
+    topped = topped_lies m.most_seen before w after piece.topped same piece.up lies
 
     -- a piece carries the run on
-    pub piece_runs : Running m before w p out at → Running m after v q out_after next
+    pub piece_runs : Running m before w p out → Running m after v q out_after
     piece_runs was =
-        let now = topped_runs before w p out at after piece.topped size piece.up was in
-        advanced_runs after p piece.topped.window lent out (place_of m.most_text (length out) at) lent_after out_after q v next piece.advanced
-        topped place_within at now (placed m.most_text now.written out at)
+        let now = topped_runs before w p out after piece.topped same piece.up was in
+        advanced_runs size after p piece.topped.window lent (held_of m.most_text size out) lent_after out_after q v piece.advanced topped out now
+        (placed m.most_text size now.written out)
 
-    -- it leaves the window in its buffer, and the place in the out buffer
+    -- it leaves the window in its buffer
     pub piece_lies : Within v (length before)
-    piece_lies = subst (λ (n : ℕ). Within v n) size (advanced_lies m laws piece.advanced topped)
-
-    pub piece_within : next ≤ length out
-    piece_within = advanced_within m laws piece.advanced topped place_within
+    piece_lies = subst (λ (n : ℕ). Within v n) same (advanced_lies m laws piece.advanced topped)
 
   -- where it has stopped, all is printed
-  pub printed_whole : (buffer : List ℕ) (w : Window) (p : m.State) (out : List ℕ) (at : ℕ) → Running m buffer w p out at → m.stopped p ≡ true
-      → PrintedWhole m out at
-  printed_whole buffer w p out at was stopped = record {
+  pub printed_whole : (buffer : List ℕ) (w : Window) (p : State) (out : List ℕ) → Running m buffer w p out → m.stopped p ≡ true
+      → PrintedWhole m out
+  printed_whole buffer w p out was stopped = record {
     read = was.read;
     written = was.written;
     whole =
-        pieces_as_whole (was.read ++ []) buffer w [] p (was.written ++ take at out) (was.runs [] (λ _. refl)) stopped
+        pieces_as_whole (was.read ++ []) buffer w [] p (was.written ++ out) (was.runs [] (λ _. refl)) stopped
         ∙ ap (prints_for m) (append-nil was.read);
   }

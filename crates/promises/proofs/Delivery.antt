@@ -15,7 +15,8 @@ use Rattle.message.specs.Table.{application, header_size}
 use Rattle.message.specs.Read.{parsed_of, data_of}
 use Rattle.message.specs.declared.Header.{Header}
 use Rattle.message.specs.declared.Tail.{Tail}
-use Rattle.message.specs.declared.Parsed.{Parsed}
+use Rattle.std.proofs.Common.{Some}
+use Rattle.message.specs.Layout.{whole}
 use Rattle.message.proofs.Accepted.{accepted_data}
 use Rattle.connection.specs.declared.Connection.{Connection}
 use Rattle.connection.specs.Connection.{opened, clocked, heard}
@@ -37,7 +38,7 @@ module _ (c : Connection) (now : Count) (message : List ℕ) where
   nothing k e = rw e
 
   -- all, of a message of type 6
-  all : (h : Header) (t : Tail) → parsed_of message ≡ Parsed.Whole h t → h.kind ≡ application → (k : ℕ) → delivers_to c k ≡ true
+  all : (h : Header) (t : Tail) → parsed_of message ≡ Some (whole h t) → h.kind ≡ application → (k : ℕ) → delivers_to c k ≡ true
       → delivered_of message t.«data» ≡ (when delivers_to c k answer data_of message else [])
   unfolding delivered_of
   all h t w i k e = rw e (take_all t.«data» (drop header_size message) (omega (arith, length-drop header_size message, accepted_data message h t w i)))
@@ -75,7 +76,7 @@ module _ (c : Connection) (now : Count) (message : List ℕ) where
   is_data h (Expects.x5 p k) o = let z : c.phase ≡ opened = eqb-true c.phase opened o in let q : ⊥ = omega arith in absurd q
   is_data h (Expects.x6 p k) o = k
 
-  taken : (h : Header) (t : Tail) → parsed_of message ≡ Parsed.Whole h t → Expects c.phase h.kind → Delivers (message_taken c now h t)
+  taken : (h : Header) (t : Tail) → parsed_of message ≡ Some (whole h t) → Expects c.phase h.kind → Delivers (message_taken c now h t)
   unfolding message_taken start_taken answ1_taken answ2_taken est_taken end_taken data_taken
   taken h t w (Expects.x1 p k) = rw k (nothing 0 (in_set_up 0 (rw p refl)))
   taken h t w (Expects.x2 p k) = rw k (nothing 0 (in_set_up 0 (rw p refl)))

@@ -15,7 +15,9 @@ use Rattle.message.specs.Table.{offset_start, offset_answ1, offset_answ2, offset
 use Rattle.message.specs.Read.{parsed_of}
 use Rattle.message.specs.declared.Header.{Header}
 use Rattle.message.specs.declared.Tail.{Tail}
-use Rattle.message.specs.declared.Parsed.{Parsed}
+use Rattle.std.proofs.Common.{Option, Some, None}
+use Rattle.message.specs.declared.Message.{Message}
+use Rattle.message.specs.Layout.{whole}
 use Rattle.connection.specs.declared.Connection.{Connection}
 use Rattle.connection.specs.Connection.{
   closed,
@@ -29,8 +31,6 @@ use Rattle.connection.specs.Connection.{
   heard,
 }
 use Rattle.peer_faults.specs.declared.Expectation.TheVariants.{Expected}
-use Rattle.what_follows.specs.declared.Reply.{Reply}
-use Rattle.what_follows.specs.declared.Reply.TheVariants.{Nothing, Send}
 use Rattle.what_follows.specs.declared.Outcome.{Outcome}
 use Rattle.peer_faults.specs.Faults.{expectation_of, not_ahead, beyond_n, wrong_echo, fault_number}
 use Rattle.what_follows.specs.Follows.{start_taken, answ1_taken, answ2_taken, est_taken, end_taken, data_taken, message_taken, refusing, raised}
@@ -150,7 +150,7 @@ module _ (log : List Header) (c : Connection) (now : Count) (message : List ℕ)
   left_open o e = rw e
 
   -- in set-up it stands before what is sent back
-  grown : (o : Outcome) (h : Header) (t : Tail) → eqb c.phase opened ≡ false → o.number ≡ 0 → parsed_of message ≡ Parsed.Whole h t
+  grown : (o : Outcome) (h : Header) (t : Tail) → eqb c.phase opened ≡ false → o.number ≡ 0 → parsed_of message ≡ Some (whole h t)
       → log_after Call.Receive c message o log ≡ with_sent o.reply (h ∷ log)
   unfolding log_after
   grown o h t p a w = rw (p, a, w)
@@ -181,7 +181,7 @@ module _ (log : List Header) (c : Connection) (now : Count) (message : List ℕ)
     raised_after d k n p w o =
         both After (leb d.settings.limit (d.errors + 1)) _ _ (λ _. gone _ refl) (λ _. same_log _ (left_open _ o) (same _ p w g))
 
-    module _ (h : Header) (t : Tail) (w : parsed_of message ≡ Parsed.Whole h t) (echo : wrong_echo h.kind h.last_peer_stamp.0 c.wait_start.0 ≡ false) where
+    module _ (h : Header) (t : Tail) (w : parsed_of message ≡ Some (whole h t)) (echo : wrong_echo h.kind h.last_peer_stamp.0 c.wait_start.0 ≡ false) where
       -- the newest message before h, which is ours
       record Newest : Type 0 where
         newest : Header
@@ -201,10 +201,10 @@ module _ (log : List Header) (c : Connection) (now : Count) (message : List ℕ)
           go (opens h rest l x k o) = absurd (eqb-false p opened d (sym e ∙ o))
 
       -- our next message, and then ours, which begins the next wait
-      module _ (o : Outcome) (reply : Header) (s : Tail) (sent : o.reply ≡ Send reply s) (zero : o.number ≡ 0) (set-up : eqb c.phase opened ≡ false)
+      module _ (o : Outcome) (reply : Header) (s : Tail) (sent : o.reply ≡ Some (whole reply s)) (zero : o.number ≡ 0) (set-up : eqb c.phase opened ≡ false)
           (echoes-it : reply.last_peer_stamp ≡ h.stamp) where
         two_more : log_after Call.Receive c message o log ≡ reply ∷ (h ∷ log)
-        two_more = grown o h t set-up zero w ∙ ap (λ (r : Reply). with_sent r (h ∷ log)) sent
+        two_more = grown o h t set-up zero w ∙ ap (λ (r : Option Message). with_sent r (h ∷ log)) sent
 
         answered : Exchange (h ∷ log) → reply.kind ≡ suc h.kind → Exchange (reply ∷ (h ∷ log))
         answered x k = Exchange.next reply h log x k (ap (λ (n : Count). n.0) echoes-it)
@@ -319,7 +319,7 @@ module _ (call : Call) (c : Connection) (lent : List ℕ) (log : List Header) wh
   not_in_set_up o b e = rw (b, e)
 
   -- and one that begins nothing, takes nothing and sends nothing
-  silent : (o : Outcome) → (rule_of call).begins ≡ false → (rule_of call).message lent ≡ Parsed.Malformed → o.reply ≡ Nothing → log_after call c lent o log ≡ log
+  silent : (o : Outcome) → (rule_of call).begins ≡ false → (rule_of call).message lent ≡ None → o.reply ≡ None → log_after call c lent o log ≡ log
   unfolding log_after
   silent o b m r = rw (b, m, r) (go (not (eqb c.phase opened) && eqb o.number 0))
     where

@@ -15,7 +15,9 @@ use Rattle.message.specs.Table.{offset_start, offset_answ1, offset_answ2, offset
 use Rattle.message.specs.Read.{parsed_of}
 use Rattle.message.specs.declared.Header.{Header}
 use Rattle.message.specs.declared.Tail.{Tail}
-use Rattle.message.specs.declared.Parsed.{Parsed}
+use Rattle.std.proofs.Common.{Option, Some, None}
+use Rattle.message.specs.declared.Message.{Message}
+use Rattle.message.specs.Layout.{whole}
 use Rattle.connection.specs.declared.Connection.{Connection}
 use Rattle.number.specs.Number.{distance_of}
 use Rattle.connection.specs.Connection.{
@@ -113,19 +115,19 @@ pub data IsFault : ℕ → Type 0 where
 abbrev pub Ageless : (Outcome → Type 0) → Type 0
 Ageless P = (age : Age) (o : Outcome) → P o → P (reporting age o)
 
-pub record Ways (P : Outcome → Type 0) (c : Connection) (now : Count) (p : Parsed) : Type 0 where
+pub record Ways (P : Outcome → Type 0) (c : Connection) (now : Count) (p : Option Message) : Type 0 where
   pub malformed_open : eqb c.phase opened ≡ true → P (kept 201 0 (clocked c now))
   pub malformed_set_up : eqb c.phase opened ≡ false → P (released 201 0)
   pub unexpected : eqb c.phase opened ≡ true → P (kept 211 0 (clocked c now))
   pub unexpected_set_up : eqb c.phase opened ≡ false → P (released 211 0)
-  pub taken : (h : Header) (t : Tail) → p ≡ Parsed.Whole h t → expectation_of c.phase h.kind ≡ Expected → fault_number c now h t ≡ 0 → P (message_taken c now h t)
+  pub taken : (h : Header) (t : Tail) → p ≡ Some (whole h t) → expectation_of c.phase h.kind ≡ Expected → fault_number c now h t ≡ 0 → P (message_taken c now h t)
   pub refusing : (h : Header) → eqb c.phase opened ≡ false → P (refusing c now h)
   pub in_set_up : (k : ℕ) → IsFault k → eqb c.phase opened ≡ false → P (released k 0)
   pub dropped : eqb c.phase opened ≡ true → P (raised (clocked c now) 202 0)
   pub too_far_lem : eqb c.phase opened ≡ true → P (released 203 0)
-  pub after_gap : (h : Header) (t : Tail) → p ≡ Parsed.Whole h t → expectation_of c.phase h.kind ≡ Expected → eqb c.phase opened ≡ true
+  pub after_gap : (h : Header) (t : Tail) → p ≡ Some (whole h t) → expectation_of c.phase h.kind ≡ Expected → eqb c.phase opened ≡ true
       → P (raised (heard (clocked c now) h now) 204 t.«data»)
-  pub raising : (h : Header) (t : Tail) → p ≡ Parsed.Whole h t → (k : ℕ) → IsFault k → eqb k 203 ≡ false → eqb k 204 ≡ false → eqb c.phase opened ≡ true
+  pub raising : (h : Header) (t : Tail) → p ≡ Some (whole h t) → (k : ℕ) → IsFault k → eqb k 203 ≡ false → eqb k 204 ≡ false → eqb c.phase opened ≡ true
       → P (raised (heard (clocked c now) h now) k 0)
 
 -- an unexpected type: open, or in set-up
@@ -151,8 +153,8 @@ unexpected_released phase type =
     both (λ x. x ≡ Released → eqb phase opened ≡ false) (eqb phase opened && eqb type application) _ _ (λ _ e. (let z : ◌≡◌ {A = ℕ} 0 1 = cc in let q : ⊥ = omega arith in absurd q)) (λ _.
     both (λ x. x ≡ Released → eqb phase opened ≡ false) (eqb phase opened) _ _ (λ o e. (let z : ◌≡◌ {A = ℕ} 0 1 = cc in let q : ⊥ = omega arith in absurd q)) (λ s e. s)))))))
 
-module _ (P : Outcome → Type 0) (ageless : Ageless P) (c : Connection) (now : Count) (p : Parsed) (l : Ways P c now p) where
-  module _ (h : Header) (t : Tail) (w : p ≡ Parsed.Whole h t) (x : expectation_of c.phase h.kind ≡ Expected) where
+module _ (P : Outcome → Type 0) (ageless : Ageless P) (c : Connection) (now : Count) (p : Option Message) (l : Ways P c now p) where
+  module _ (h : Header) (t : Tail) (w : p ≡ Some (whole h t)) (x : expectation_of c.phase h.kind ≡ Expected) where
     open_leaf : (k : ℕ) → IsFault k → eqb c.phase opened ≡ true → P (open_follows_of c now h t k)
     unfolding open_follows_of
     open_leaf k f o =
@@ -186,15 +188,15 @@ module _ (P : Outcome → Type 0) (ageless : Ageless P) (c : Connection) (now : 
         both Judged (gap h.kind (distance_of h.number c.peer.number)) _ _ (λ _ _. fault_leaf 204 refl f204) (λ _.
         λ e. taken_leaf e)))))))) refl
 
-  met_leaf : (h : Header) (t : Tail) → p ≡ Parsed.Whole h t → (x : Expectation) → expectation_of c.phase h.kind ≡ x → P (met_of c now h t x)
+  met_leaf : (h : Header) (t : Tail) → p ≡ Some (whole h t) → (x : Expectation) → expectation_of c.phase h.kind ≡ x → P (met_of c now h t x)
   met_leaf h t w Expected e = ageless (age_with c now h (fault_number c now h t)) (follows_of c now h t (fault_number c now h t)) (follows_leaf h t w e)
   met_leaf h t w Unexpected e = l.unexpected (unexpected_open c.phase h.kind e)
   met_leaf h t w Released e = l.unexpected_set_up (unexpected_released c.phase h.kind e)
 
-step_leaf : (P : Outcome → Type 0) → Ageless P → (c : Connection) (now : Count) (p : Parsed) → Ways P c now p → P (step_of c now p)
+step_leaf : (P : Outcome → Type 0) → Ageless P → (c : Connection) (now : Count) (p : Option Message) → Ways P c now p → P (step_of c now p)
 unfolding step_of malformed_of
-step_leaf P ageless c now Parsed.Malformed l = both P (eqb c.phase opened) _ _ (λ o. l.malformed_open o) (λ s. l.malformed_set_up s)
-step_leaf P ageless c now (Parsed.Whole h t) l = met_leaf P ageless c now (Parsed.Whole h t) l h t refl (expectation_of c.phase h.kind) refl
+step_leaf P ageless c now None l = both P (eqb c.phase opened) _ _ (λ o. l.malformed_open o) (λ s. l.malformed_set_up s)
+step_leaf P ageless c now (Some m) l = met_leaf P ageless c now (Some (whole m.header m.tail)) l m.header m.tail refl (expectation_of c.phase m.header.kind) refl
 
 -- receive: refused, or the wait is over, or the message is judged
 pub receive_by : (P : Outcome → Type 0) → Ageless P → (c : Connection) (now : Count) (message : List ℕ) (room : ℕ)

@@ -13,10 +13,13 @@ use Rattle.message.specs.Table.{application}
 use Rattle.message.specs.Read.{parsed_of}
 use Rattle.message.specs.declared.Header.{Header}
 use Rattle.message.specs.declared.Tail.{Tail}
-use Rattle.message.specs.declared.Parsed.{Parsed}
+use Rattle.std.proofs.Common.{Option, Some}
+use Rattle.message.specs.declared.Message.{Message}
+use Rattle.message.specs.Layout.{whole}
 use Rattle.connection.specs.declared.Connection.{Connection}
 use Rattle.connection.specs.Connection.{opened, clocked, counted, heard, heard_of}
-use Rattle.connection.proofs.Ranges.{or_off, in_range}
+use Rattle.connection.proofs.Ranges.{in_range}
+use Rattle.std.proofs.lemmas.Bool.{or_parts}
 use Rattle.peer_faults.specs.declared.Expectation.{Expectation}
 use Rattle.peer_faults.specs.declared.Expectation.TheVariants.{Expected}
 use Rattle.peer_faults.specs.Faults.{expectation_of, number_judged, not_ahead, beyond_n, wrong_echo, check_failed, age_fault, gap, fault_number}
@@ -43,7 +46,7 @@ module _ (c : Connection) (now : Count) (message : List ℕ) where
   gone : (k : ℕ) (next : Connection) → k among remembered_with ≡ true → true ≡ false → Remembers message now next
   gone k next _ r = no_way r
 
-  heard_kept : (h : Header) (t : Tail) → parsed_of message ≡ Parsed.Whole h t → (errors : ℕ) → Remembers message now (counted (heard (clocked c now) h now) errors)
+  heard_kept : (h : Header) (t : Tail) → parsed_of message ≡ Some (whole h t) → (errors : ℕ) → Remembers message now (counted (heard (clocked c now) h now) errors)
   heard_kept h t w errors = record { header = h; tail = t; taken_apart = w; number = refl; stamp = refl; arrival = refl }
 
   raised_kept : (before : Connection) (k delivered : ℕ)
@@ -51,7 +54,7 @@ module _ (c : Connection) (now : Count) (message : List ℕ) where
   unfolding raised
   raised_kept before k delivered f = both Kept (leb before.settings.limit (before.errors + 1)) _ _ (λ _. gone k _) (λ _. f)
 
-  taken_kept : (h : Header) (t : Tail) → parsed_of message ≡ Parsed.Whole h t → h.kind ≡ application → Kept (message_taken c now h t)
+  taken_kept : (h : Header) (t : Tail) → parsed_of message ≡ Some (whole h t) → h.kind ≡ application → Kept (message_taken c now h t)
   unfolding message_taken data_taken
   taken_kept h t w k = rw k (λ _ _. heard_kept h t w 0)
 
@@ -106,7 +109,7 @@ module _ (c : Connection) (now : Count) (h : Header) (t : Tail) (o : c.phase ≡
   moves : not_ahead h.kind d ≡ false → beyond_n h.kind d c.settings.n ≡ false → remembered_by c now h ≡ heard_of h now
   unfolding remembered_by not_ahead beyond_n number_judged
   moves a b =
-      let ahead = or_off (eqb d 0) (leb behind_from d) (rw type at a) in
+      let ahead = or_parts (eqb d 0) (leb behind_from d) (rw type at a) in
       let some = eqb-false d 0 ahead.0 in
       rw (le-leb 1 d (omega (arith, some)), le-leb d c.settings.n (ltb-false c.settings.n d (rw type at b)))
 
@@ -150,16 +153,16 @@ module _ (c : Connection) (now : Count) (h : Header) (t : Tail) (o : c.phase ≡
   unfolding expectation_of
   expected = rw (o, type)
 
-  step : ByNumber c now h (step_of c now (Parsed.Whole h t))
+  step : ByNumber c now h (step_of c now (Some (whole h t)))
   unfolding step_of
   step = subst (λ (x : Expectation). ByNumber c now h (met_of c now h t x)) (sym expected) follows
 
 -- ERR-5, ERR-6: what an open connection remembers after a type 6 that is not refused and does not release goes by the message's d alone
 pub remembers_by_number : (c : Connection) (now : Count) (message : List ℕ) (room : ℕ) (h : Header) (t : Tail)
-    → c.phase ≡ opened → receive_refusal c now room ≡ 0 → parsed_of message ≡ Parsed.Whole h t → h.kind ≡ application
+    → c.phase ≡ opened → receive_refusal c now room ≡ 0 → parsed_of message ≡ Some (whole h t) → h.kind ≡ application
     → (receive_outcome c now message room).released ≡ false
     → (receive_outcome c now message room).next.peer ≡ remembered_by c now h
 unfolding receive_outcome
 remembers_by_number c now message room h t o z w type =
     rw z (both (ByNumber c now h) (expired c now) _ _ (λ e. no_way (sym (eq-eqb c.phase opened o) ∙ not_open c now e))
-    (λ _. subst (λ (p : Parsed). ByNumber c now h (step_of c now p)) (sym w) (step c now h t o type (in_range c.settings (receive_sound c now room z).settings).most_n_lem)))
+    (λ _. subst (λ (p : Option Message). ByNumber c now h (step_of c now p)) (sym w) (step c now h t o type (in_range c.settings (receive_sound c now room z).settings).most_n_lem)))

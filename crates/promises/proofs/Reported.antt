@@ -1,6 +1,7 @@
 -- AGE-7, AGE-8: the age that a call reports is the one by which it judged the message, and the answer goes by it.
 -- Assumes nothing.
 use Prim.Native.Nat.{ℕ, ◌+◌}
+use Rattle.std.proofs.Math.Bool.{and-false}
 use mathlib.Core.Path.{◌≡◌, refl, sym, ap, subst, ◌∙◌}
 use mathlib.Core.Bool.{Bool, true, false, not, ◌&&◌, ◌||◌}
 use mathlib.Core.List.{List, []}
@@ -20,7 +21,9 @@ use Rattle.message.specs.Table.{offset_start, offset_answ1, offset_answ2, offset
 use Rattle.message.specs.Read.{parsed_of}
 use Rattle.message.specs.declared.Header.{Header}
 use Rattle.message.specs.declared.Tail.{Tail}
-use Rattle.message.specs.declared.Parsed.{Parsed}
+use Rattle.std.proofs.Common.{Option, Some, None}
+use Rattle.message.specs.declared.Message.{Message}
+use Rattle.message.specs.Layout.{whole}
 use Rattle.connection.specs.declared.Connection.{Connection}
 use Rattle.connection.specs.Connection.{initiator_waits_for4, opened}
 use Rattle.peer_faults.specs.declared.Expectation.{Expectation}
@@ -164,10 +167,6 @@ module _ (c : Connection) (now : Count) (h : Header) (t : Tail) (k : ℕ) where
 
 -- ---- the age that goes with it
 
-and_false : (a : Bool) → a && false ≡ false
-and_false true = refl
-and_false false = refl
-
 -- AGE-8: none goes with an answer of set-up, and none with another number
 in_set_up : (c : Connection) (k : ℕ) → eqb c.phase opened ≡ false → tells_age c k ≡ false
 unfolding tells_age
@@ -175,15 +174,15 @@ in_set_up c k e = rw e refl
 
 other_number : (c : Connection) (k : ℕ) → reports_age k ≡ false → tells_age c k ≡ false
 unfolding tells_age
-other_number c k e = rw e (and_false (eqb c.phase opened))
+other_number c k e = rw e (and-false (eqb c.phase opened))
 
-untold : (c : Connection) (now : Count) (p : Parsed) (k : ℕ) → tells_age c k ≡ false → no_age ≡ reported_by c now p k
-untold c now Parsed.Malformed k e = refl
-untold c now (Parsed.Whole h t) k e =
-    let off : (when tells_age c k answer (time_check_of c now h).age else no_age) ≡ no_age = rw e refl in
+untold : (c : Connection) (now : Count) (p : Option Message) (k : ℕ) → tells_age c k ≡ false → no_age ≡ reported_by c now p k
+untold c now None k e = refl
+untold c now (Some m) k e =
+    let off : (when tells_age c k answer (time_check_of c now m.header).age else no_age) ≡ no_age = rw e refl in
     sym off
 
-pub none_with : (c : Connection) (now : Count) (p : Parsed) (k : ℕ) → reports_age k ≡ false → no_age ≡ reported_by c now p k
+pub none_with : (c : Connection) (now : Count) (p : Option Message) (k : ℕ) → reports_age k ≡ false → no_age ≡ reported_by c now p k
 none_with c now p k e = untold c now p k (other_number c k e)
 
 module _ (c : Connection) (now : Count) (h : Header) (t : Tail) (k : ℕ) where
@@ -196,10 +195,10 @@ module _ (c : Connection) (now : Count) (h : Header) (t : Tail) (k : ℕ) where
       go true = refl
       go false = refl
 
-  set_up_age : eqb h.kind application ≡ false → eqb c.phase opened ≡ false → age_with c now h k ≡ reported_by c now (Parsed.Whole h t) k
-  set_up_age e s = no_age_lem e ∙ untold c now (Parsed.Whole h t) k (in_set_up c k s)
+  set_up_age : eqb h.kind application ≡ false → eqb c.phase opened ≡ false → age_with c now h k ≡ reported_by c now (Some (whole h t)) k
+  set_up_age e s = no_age_lem e ∙ untold c now (Some (whole h t)) k (in_set_up c k s)
 
-  age_with_lem : Expects c.phase h.kind → age_with c now h k ≡ reported_by c now (Parsed.Whole h t) k
+  age_with_lem : Expects c.phase h.kind → age_with c now h k ≡ reported_by c now (Some (whole h t)) k
   unfolding age_with age_fault tells_age
   age_with_lem (Expects.x1 p e) = set_up_age (rw e refl) (rw p refl)
   age_with_lem (Expects.x2 p e) = set_up_age (rw e refl) (rw p refl)
@@ -214,23 +213,23 @@ module _ (c : Connection) (now : Count) (message : List ℕ) where
   abbrev Reports : Outcome → Type 0
   Reports o = o.age ≡ reported_by c now (parsed_of message) o.number
 
-  expected_reports : (h : Header) (t : Tail) → parsed_of message ≡ Parsed.Whole h t → Expects c.phase h.kind → Reports (met_of c now h t Expected)
+  expected_reports : (h : Header) (t : Tail) → parsed_of message ≡ Some (whole h t) → Expects c.phase h.kind → Reports (met_of c now h t Expected)
   expected_reports h t w x =
       age_with_lem c now h t (fault_number c now h t) x
-      ∙ ap (reported_by c now (Parsed.Whole h t)) (sym (follows_number c now h t (fault_number c now h t)))
-      ∙ ap (λ (p : Parsed). reported_by c now p (follows_of c now h t (fault_number c now h t)).number) (sym w)
+      ∙ ap (reported_by c now (Some (whole h t))) (sym (follows_number c now h t (fault_number c now h t)))
+      ∙ ap (λ (p : Option Message). reported_by c now p (follows_of c now h t (fault_number c now h t)).number) (sym w)
 
-  met_reports : (h : Header) (t : Tail) → parsed_of message ≡ Parsed.Whole h t → (x : Expectation) → expectation_of c.phase h.kind ≡ x → Reports (met_of c now h t x)
+  met_reports : (h : Header) (t : Tail) → parsed_of message ≡ Some (whole h t) → (x : Expectation) → expectation_of c.phase h.kind ≡ x → Reports (met_of c now h t x)
   unfolding reports_age
   met_reports h t w Expected e = expected_reports h t w (expected_is c.phase h.kind e)
   met_reports h t w Unexpected e = none_with c now (parsed_of message) 211 refl
   met_reports h t w Released e = none_with c now (parsed_of message) 211 refl
 
-  step_reports : (p : Parsed) → parsed_of message ≡ p → Reports (step_of c now p)
+  step_reports : (p : Option Message) → parsed_of message ≡ p → Reports (step_of c now p)
   unfolding step_of malformed_of reports_age
-  step_reports Parsed.Malformed e =
+  step_reports None e =
       both Reports (eqb c.phase opened) _ _ (λ _. none_with c now (parsed_of message) 201 refl) (λ _. none_with c now (parsed_of message) 201 refl)
-  step_reports (Parsed.Whole h t) e = met_reports h t e (expectation_of c.phase h.kind) refl
+  step_reports (Some m) e = met_reports m.header m.tail e (expectation_of c.phase m.header.kind) refl
 
   refused_reports : (room : ℕ) → eqb (receive_refusal c now room) 0 ≡ false → no_age ≡ reported_by c now (parsed_of message) (receive_refusal c now room)
   unfolding reports_age
@@ -300,7 +299,7 @@ module _ (c : Connection) (now : Count) (h : Header) (t : Tail) where
   met_goes o Unexpected e = λ q. no_way (sym q)
   met_goes o Released e = λ q. no_way (sym q)
 
-  judged_goes : c.phase ≡ opened → (message : List ℕ) (room : ℕ) → parsed_of message ≡ Parsed.Whole h t → Goes (receive_outcome c now message room).number
+  judged_goes : c.phase ≡ opened → (message : List ℕ) (room : ℕ) → parsed_of message ≡ Some (whole h t) → Goes (receive_outcome c now message room).number
   unfolding receive_outcome step_of reports_age
   judged_goes o message room w =
       rw w
@@ -316,7 +315,7 @@ module _ (c : Connection) (now : Count) (h : Header) (t : Tail) where
           (λ _ q. no_way (sym q)) (λ _ q. no_way (sym q)) (λ _ q. no_way (sym q))
 
 -- bytes that are no message get none of the four
-malformed_reports : (c : Connection) (now : Count) (message : List ℕ) (room : ℕ) → parsed_of message ≡ Parsed.Malformed
+malformed_reports : (c : Connection) (now : Count) (message : List ℕ) (room : ℕ) → parsed_of message ≡ None
     → reports_age (receive_outcome c now message room).number ≡ false
 unfolding receive_outcome step_of malformed_of reports_age
 malformed_reports c now message room w =
@@ -343,9 +342,9 @@ receive_goes_by_age c now message room e = go (parsed_of message) refl
     told : (eqb c.phase opened ≡ true) × (reports_age k ≡ true)
     told = and_both (eqb c.phase opened) (reports_age k) e
 
-    go : (p : Parsed) → parsed_of message ≡ p → GoesByAge c.settings.t_max (receive_outcome c now message room).age.0 k
-    go Parsed.Malformed w = no_way (sym told.1 ∙ malformed_reports c now message room w)
-    go (Parsed.Whole h t) w =
+    go : (p : Option Message) → parsed_of message ≡ p → GoesByAge c.settings.t_max (receive_outcome c now message room).age.0 k
+    go None w = no_way (sym told.1 ∙ malformed_reports c now message room w)
+    go (Some m) w =
         subst (λ (age : Age). GoesByAge c.settings.t_max age.0 k)
-        (sym (receive_reports c now message room ∙ ap (λ (p : Parsed). reported_by c now p k) w ∙ rw (told.0, told.1) refl))
-        (judged_goes c now h t (eqb-true c.phase opened told.0) message room w told.1)
+        (sym (receive_reports c now message room ∙ ap (λ (p : Option Message). reported_by c now p k) w ∙ rw (told.0, told.1) refl))
+        (judged_goes c now m.header m.tail (eqb-true c.phase opened told.0) message room w told.1)

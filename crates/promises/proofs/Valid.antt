@@ -30,7 +30,8 @@ use Rattle.connection.specs.Connection.{
   sent,
   begun,
 }
-use Rattle.connection.proofs.Ranges.{or_off, in_range}
+use Rattle.connection.proofs.Ranges.{in_range}
+use Rattle.std.proofs.lemmas.Bool.{or_parts}
 use Rattle.what_follows.specs.declared.Outcome.{Outcome}
 use Rattle.what_follows.specs.Follows.{kept, sending, start_taken, answ1_taken, answ2_taken, est_taken, end_taken, data_taken, message_taken, refusing, raised}
 use Rattle.calls.specs.declared.Given.{Given}
@@ -70,8 +71,8 @@ pub record Sound (c : Connection) : Type 0 where
 sound_of : (c : Connection) → unsound c ≡ false → Sound c
 unfolding unsound
 sound_of c e =
-    let a = or_off (out_of_range c.settings || c.phase outside initiator_waits_for2 to opened) (leb c.settings.limit c.errors) e in
-    let b = or_off (out_of_range c.settings) (c.phase outside initiator_waits_for2 to opened) a.0 in
+    let a = or_parts (out_of_range c.settings || c.phase outside initiator_waits_for2 to opened) (leb c.settings.limit c.errors) e in
+    let b = or_parts (out_of_range c.settings) (c.phase outside initiator_waits_for2 to opened) a.0 in
     record { settings = b.0; phase = b.1; errors = a.1; limit = (in_range c.settings b.0).limit }
 
 sound_is : (c : Connection) → out_of_range c.settings ≡ false → c.phase outside initiator_waits_for2 to opened ≡ false → leb c.settings.limit c.errors ≡ false
@@ -192,7 +193,7 @@ begin_stays c g now room v =
         let a = row_off (bad c) 101 _ (lit< tt) e in
         let b = row_off (not (eqb c.phase closed)) 103 _ (lit< tt) a.1 in
         let d = row_off (ltb responder g.role || out_of_range g.settings) 104 _ (lit< tt) b.1 in
-        (or_off (ltb responder g.role) (out_of_range g.settings) d.0).1
+        (or_parts (ltb responder g.role) (out_of_range g.settings) d.0).1
 
     go : out_of_range g.settings ≡ false
         → Stays (when eqb g.role initiator answer start_sent g now else kept 0 0 (begun g.settings g.own responder_waits_for1 now))

@@ -1,27 +1,25 @@
 -- How a connection opens: the messages of set-up since the last begin, and the exchange that they must be (SHUT-4).
-use Rattle.std.specs.Prelude.{ℕ, suc, ◌≡◌, not, ◌&&◌, List, [], ◌∷◌, eqb, length}
+use Rattle.std.specs.Prelude.{ℕ, suc, ◌≡◌, not, ◌&&◌, List, [], ◌∷◌, eqb, length, Option, Some, None}
 use Rattle.rules.specs.Rows.{when◌answer◌else◌}
 use Rattle.clock.specs.declared.Count.{Count}
 use Rattle.message.specs.Table.{offset_start}
 use Rattle.message.specs.declared.Header.{Header}
-use Rattle.message.specs.declared.Parsed.{Parsed}
+use Rattle.message.specs.declared.Message.{Message}
 use Rattle.connection.specs.declared.Connection.{Connection}
 use Rattle.connection.specs.Connection.{closed, opened}
-use Rattle.what_follows.specs.declared.Reply.{Reply}
-use Rattle.what_follows.specs.declared.Reply.TheVariants.{Nothing, Send}
 use Rattle.what_follows.specs.declared.Outcome.{Outcome}
 use Rattle.calls.specs.declared.Call.{Call}
 use Rattle.calls.specs.Calls.{rule_of, outcome_of}
 
 -- the messages of set-up, the newest first; what was sent
-abbrev pub with_sent : Reply → List Header → List Header
-with_sent Nothing log = log
-with_sent (Send h t) log = h ∷ log
+abbrev pub with_sent : Option Message → List Header → List Header
+with_sent None log = log
+with_sent (Some m) log = m.header ∷ log
 
 -- a message that was taken; what is sent back comes after it
-abbrev pub with_taken : Parsed → List Header → List Header
-with_taken Parsed.Malformed log = log
-with_taken (Parsed.Whole h t) log = h ∷ log
+abbrev pub with_taken : Option Message → List Header → List Header
+with_taken None log = log
+with_taken (Some m) log = m.header ∷ log
 
 -- a begin that answers 0 begins the log; a call in set-up that answers 0 took its message, if it has one
 unfoldable pub log_after : Call → Connection → List ℕ → Outcome → List Header → List Header

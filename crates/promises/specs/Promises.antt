@@ -1,5 +1,5 @@
 -- What the five calls promise beyond their equations: which numbers they answer, when a slot is released, what a record can become.
-use Rattle.std.specs.Prelude.{ℕ, ◌+◌, ◌≡◌, Bool, true, false, not, ◌&&◌, ◌||◌, List, [], ◌∷◌, ◌⊎◌, ltb, leb, eqb, ℤ, pos}
+use Rattle.std.specs.Prelude.{ℕ, ◌+◌, ◌≡◌, Bool, true, false, not, ◌&&◌, ◌||◌, List, [], ◌∷◌, ◌⊎◌, ltb, leb, eqb, ℤ, pos, Option, Some, None}
 use Rattle.std.specs.Int.Signed.{lt_z, le_z}
 use Rattle.rules.specs.Rows.{when◌answer◌else◌}
 use Rattle.clock.specs.Clock.{no_age}
@@ -9,13 +9,13 @@ use Rattle.number.specs.Number.{distance_of}
 use Rattle.message.specs.Read.{parsed_of}
 use Rattle.message.specs.declared.Header.{Header}
 use Rattle.message.specs.declared.Tail.{Tail}
-use Rattle.message.specs.declared.Parsed.{Parsed}
+use Rattle.message.specs.declared.Message.{Message}
+use Rattle.message.specs.Layout.{whole}
 use Rattle.connection.specs.declared.Connection.{Connection}
 use Rattle.connection.specs.declared.Peer.{Peer}
 use Rattle.connection.specs.Connection.{closed, opened, unsound, all_zero, heard_of}
 use Rattle.peer_faults.specs.Faults.{time_check_of, reports_age}
 use Rattle.what_follows.specs.declared.Outcome.{Outcome}
-use Rattle.what_follows.specs.declared.Reply.TheVariants.{Nothing}
 
 infix 40 ◌among◌
 -- whether a number is one of a list
@@ -30,7 +30,7 @@ callers_fault k = leb 100 k && ltb k 200
 -- DEMAND-1, CALL-KEPT: what a caller's fault leaves
 pub record Unchanged (c : Connection) (o : Outcome) : Type 0 where
   pub same_record : o.next ≡ c
-  pub nothing_written : o.reply ≡ Nothing
+  pub nothing_written : o.reply ≡ None
   pub nothing_delivered : o.delivered ≡ 0
   pub not_released : o.released ≡ false
 
@@ -65,7 +65,7 @@ remembered_with = 0 ∷ 204 ∷ 205 ∷ 206 ∷ []
 pub record Remembers (message : List ℕ) (now : Count) (c : Connection) : Type 0 where
   pub header : Header
   pub tail : Tail
-  pub taken_apart : parsed_of message ≡ Parsed.Whole header tail
+  pub taken_apart : parsed_of message ≡ Some (whole header tail)
   pub number : c.peer.number ≡ header.number
   pub stamp : c.peer.stamp ≡ header.stamp
   pub arrival : c.peer.arrival ≡ now
@@ -85,10 +85,10 @@ unfoldable pub tells_age : Connection → ℕ → Bool
 tells_age c k = eqb c.phase opened && reports_age k
 
 -- AGE-7: with these the age of the message's time check; AGE-8: with any other answer, and where no message is judged, 0
-abbrev pub reported_by : Connection → Count → Parsed → ℕ → Age
-reported_by c now Parsed.Malformed k = no_age
-reported_by c now (Parsed.Whole h t) k =
-    when tells_age c k answer (time_check_of c now h).age else
+abbrev pub reported_by : Connection → Count → Option Message → ℕ → Age
+reported_by c now None k = no_age
+reported_by c now (Some m) k =
+    when tells_age c k answer (time_check_of c now m.header).age else
     no_age
 
 -- AGE-7: which of the four it is goes by the age that is reported: 206 exactly where it is below 0 (AGE-2), 205 exactly where it is above

@@ -2,11 +2,13 @@
 -- Assumes nothing.
 use Prim.Native.Nat.{ℕ, ◌+◌, ◌≤◌, ◌<◌}
 use mathlib.Core.Path.{◌≡◌, refl, sym, ap, subst, ◌∙◌}
-use mathlib.Core.Bool.{Bool, true, false, not, ◌&&◌, ◌||◌, false≢true}
+use mathlib.Core.Bool.{Bool, true, false, not, ◌&&◌}
 use mathlib.Core.List.{List, ◌++◌}
 use native.Mathlib.Omega.{arith}
-use borrow.Author.Tests.{ltb-false, lt-ltb, le-ltb, le-leb, lt-leb, eqb-true, eq-eqb, not-true, ltb-true}
-use lib.Dec.{eqb, ltb, leb}
+use borrow.Author.Tests.{ltb-false, lt-ltb, le-ltb, eqb-true, not-true}
+use Rattle.std.proofs.lemmas.Bool.{and_parts, or_parts}
+use Rattle.std.proofs.lemmas.Bool.Decides.{nat_tests}
+use lib.Dec.{eqb, ltb}
 use lib.ListN.{length, length-append}
 use Rattle.rules.specs.Rows.{when◌answer◌else◌}
 use Rattle.connection.specs.Connection.{◌outside◌to◌}
@@ -14,27 +16,7 @@ use Rattle.trace.specs.Record.{fields_at, fields_size, size_of, wrong_mark, cut_
 use Rattle.trace.specs.declared.Record.{Record}
 use Rattle.trace.proofs.Records.{same_fields}
 use Rattle.recorded_answer.specs.Answer.{answer_kind, answer_fields_size, most_answer_bytes, answers_to, behind_of}
-use Rattle.recorded_answer.specs.declared.Behind.TheVariants.{NoAnswer, Recorded}
-
-both_true : (a b : Bool) → (a && b) ≡ true → (a ≡ true) × (b ≡ true)
-both_true true b e = (refl, e)
-both_true false b e = absurd (false≢true e)
-
-and_true : (a b : Bool) → a ≡ true → b ≡ true → (a && b) ≡ true
-and_true true b e f = f
-and_true false b e f = absurd (false≢true e)
-
-neither : (a b : Bool) → (a || b) ≡ false → (a ≡ false) × (b ≡ false)
-neither true b e = absurd (false≢true (sym e))
-neither false b e = (refl, e)
-
--- at most, or not above
-pub at_most : (n most : ℕ) → leb n most ≡ not (ltb most n)
-at_most n most = by (ltb most n) refl
-  where
-    by : (over : Bool) → ltb most n ≡ over → leb n most ≡ not over
-    by true e = lt-leb n most (ltb-true most n e)
-    by false e = le-leb n most (ltb-false most n e)
+use Rattle.std.specs.Prelude.{Some, None}
 
 -- by its fields a record is the answer to a call
 pub record Answering (call a : Record) : Type 0 where
@@ -49,11 +31,11 @@ module _ (call a : Record) where
   pub answers_parts : answers_to call a ≡ true → Answering call a
   unfolding answers_to ◌outside◌to◌
   answers_parts e =
-      let size = both_true (not (wrong_mark a) && eqb a.kind answer_kind && eqb a.slot call.slot && eqb a.now.0 call.now.0) _ e in
-      let now = both_true (not (wrong_mark a) && eqb a.kind answer_kind && eqb a.slot call.slot) _ size.0 in
-      let slot = both_true (not (wrong_mark a) && eqb a.kind answer_kind) _ now.0 in
-      let kind = both_true (not (wrong_mark a)) _ slot.0 in
-      let within = neither (ltb a.length answer_fields_size) (ltb most_answer_bytes a.length) (not-true _ size.1) in
+      let size = and_parts (not (wrong_mark a) && eqb a.kind answer_kind && eqb a.slot call.slot && eqb a.now.0 call.now.0) _ e in
+      let now = and_parts (not (wrong_mark a) && eqb a.kind answer_kind && eqb a.slot call.slot) _ size.0 in
+      let slot = and_parts (not (wrong_mark a) && eqb a.kind answer_kind) _ now.0 in
+      let kind = and_parts (not (wrong_mark a)) _ slot.0 in
+      let within = or_parts (ltb a.length answer_fields_size) (ltb most_answer_bytes a.length) (not-true _ size.1) in
       record {
         mark = not-true _ kind.0;
         kind = eqb-true a.kind answer_kind kind.1;
@@ -65,15 +47,7 @@ module _ (call a : Record) where
 
   pub parts_answer : Answering call a → answers_to call a ≡ true
   unfolding answers_to ◌outside◌to◌
-  parts_answer p =
-      rw (
-        p.mark,
-        eq-eqb a.kind answer_kind p.kind,
-        eq-eqb a.slot call.slot p.slot,
-        eq-eqb a.now.0 call.now.0 p.now,
-        le-ltb a.length answer_fields_size p.least,
-        le-ltb most_answer_bytes a.length p.most,
-      ) refl
+  parts_answer p = grind (arith, nat_tests, p.mark, p.kind, p.slot, p.now, p.least, p.most)
 
 -- an answer stands there, whole
 pub record AnsweredBy (call : Record) (s : List ℕ) (a : Record) : Type 0 where
@@ -83,40 +57,32 @@ pub record AnsweredBy (call : Record) (s : List ℕ) (a : Record) : Type 0 where
 
 module _ (call : Record) (s : List ℕ) where
   by_tests : (answers cut : Bool) → answers_to call (fields_at s) ≡ answers → cut_record s (fields_at s) ≡ cut
-      → behind_of call s ≡ (when answers && not cut answer Recorded (fields_at s) else NoAnswer)
+      → behind_of call s ≡ (when answers && not cut answer Some (fields_at s) else None)
   unfolding behind_of
   by_tests answers cut e f = rw (e, f)
 
-  pub not_answered : answers_to call (fields_at s) ≡ false → behind_of call s ≡ NoAnswer
+  pub not_answered : answers_to call (fields_at s) ≡ false → behind_of call s ≡ None
   not_answered e = by_tests false (cut_record s (fields_at s)) e refl
 
-  pub cut_behind : length s < size_of (fields_at s) → behind_of call s ≡ NoAnswer
+  pub cut_behind : length s < size_of (fields_at s) → behind_of call s ≡ None
   unfolding cut_record
   cut_behind h = by_tests (answers_to call (fields_at s)) true refl (lt-ltb (length s) (size_of (fields_at s)) h) ∙ none (answers_to call (fields_at s))
     where
-      none : (b : Bool) → (when b && not true answer Recorded (fields_at s) else NoAnswer) ≡ NoAnswer
+      none : (b : Bool) → (when b && not true answer Some (fields_at s) else None) ≡ None
       none true = refl
       none false = refl
 
-  pub is_behind : answers_to call (fields_at s) ≡ true → size_of (fields_at s) ≤ length s → behind_of call s ≡ Recorded (fields_at s)
+  pub is_behind : answers_to call (fields_at s) ≡ true → size_of (fields_at s) ≤ length s → behind_of call s ≡ Some (fields_at s)
   unfolding cut_record
   is_behind e h = by_tests true false e (le-ltb (length s) (size_of (fields_at s)) h)
 
-  pub behind_is : (a : Record) → behind_of call s ≡ Recorded a → AnsweredBy call s a
+  pub behind_is : (a : Record) → behind_of call s ≡ Some a → AnsweredBy call s a
   unfolding cut_record
   behind_is a e = by (answers_to call (fields_at s)) (cut_record s (fields_at s)) refl refl
     where
       by : (answers cut : Bool) → answers_to call (fields_at s) ≡ answers → cut_record s (fields_at s) ≡ cut → AnsweredBy call s a
-      by true true f g =
-          let none = sym (by_tests true true f g) ∙ e in
-          let z : ◌≡◌ {A = ℕ} 0 1 = cc in
-          let clash : ⊥ = omega arith in
-          absurd clash
-      by false cut f g =
-          let none = sym (by_tests false cut f g) ∙ e in
-          let z : ◌≡◌ {A = ℕ} 0 1 = cc in
-          let clash : ⊥ = omega arith in
-          absurd clash
+      by true true f g = let none = sym (by_tests true true f g) ∙ e in cc
+      by false cut f g = let none = sym (by_tests false cut f g) ∙ e in cc
       by true false f g =
           let there = sym (by_tests true false f g) ∙ e in
           let same : fields_at s ≡ a = cc in
@@ -139,4 +105,4 @@ behind_no_more call s rest many = by (answers_to call (fields_at s)) refl
         let most = (answers_parts call (fields_at s) e).most in
         is_behind call (s ++ rest) (ap (answers_to call) fields ∙ e)
         (subst (λ (r : Record). size_of r ≤ length (s ++ rest)) (sym fields) (omega (arith, most, length-append s rest)))
-        ∙ ap Recorded fields ∙ sym (is_behind call s e (omega (arith, most)))
+        ∙ ap Some fields ∙ sym (is_behind call s e (omega (arith, most)))

@@ -1,6 +1,6 @@
 -- A recorded answer: the record of kind 6 behind a call's, its bytes, and when it is the answer that the rules give.
 -- Assumes nothing.
-use Rattle.std.specs.Prelude.{ℕ, ◌+◌, Bool, not, ◌&&◌, List, [], ◌∷◌, ◌++◌, eqb, get_or, take, drop, pos}
+use Rattle.std.specs.Prelude.{ℕ, ◌+◌, Bool, not, ◌&&◌, List, [], ◌∷◌, ◌++◌, eqb, get_or, take, drop, pos, Option, Some, None}
 use Rattle.rules.specs.Rows.{when◌answer◌else◌}
 use Rattle.clock.specs.Clock.{wrapped, centred}
 use Rattle.field.specs.Row.{fields_of, row_of, width_of}
@@ -10,8 +10,6 @@ use Rattle.text.specs.Text.{same_word}
 use Rattle.trace.specs.Record.{fields_at, wrong_mark, cut_record}
 use Rattle.trace.specs.Call.{room}
 use Rattle.trace.specs.declared.Record.{Record}
-use Rattle.recorded_answer.specs.declared.Behind.{Behind}
-use Rattle.recorded_answer.specs.declared.Behind.TheVariants.{NoAnswer, Recorded}
 use Rattle.recorded_answer.specs.declared.Fields.{Fields}
 
 -- CHECKER-1: the kind of a recorded answer
@@ -46,10 +44,10 @@ answers_to call a =
     && not (a.length outside answer_fields_size to most_answer_bytes)
 
 -- CHECKER-2: what stands directly behind a call's record: its answer, whole, or none
-unfoldable pub behind_of : Record → List ℕ → Behind
+unfoldable pub behind_of : Record → List ℕ → Option Record
 behind_of call s =
-    when answers_to call (fields_at s) && not (cut_record s (fields_at s)) answer Recorded (fields_at s) else
-    NoAnswer
+    when answers_to call (fields_at s) && not (cut_record s (fields_at s)) answer Some (fields_at s) else
+    None
 
 -- CHECKER-14: the fields by their names, in this order; the bytes written stand behind them:
 abbrev pub named : List ℕ → Fields
@@ -64,3 +62,7 @@ recorded_fields recorded = named (fields_of answer_widths recorded 0)
 
 abbrev pub recorded_written : List ℕ → List ℕ
 recorded_written recorded = drop answer_fields_size recorded
+
+-- CHECKER-14: the same fields of the answer that the rules give
+abbrev pub answer_fields : Answer → Fields
+answer_fields a = record { number = a.number; released = when a.released answer 1 else 0; age = a.age }

@@ -1,14 +1,19 @@
 -- What is said of a whole file: the turns are enough, the machine prints it, and its first line is the verdict.
 -- Assumes nothing.
-use Prim.Native.Nat.{ℕ, zero, suc, ◌+◌, ◌-◌, ◌/◌, ◌%◌, ◌<◌}
+use Prim.Native.Nat.{ℕ, zero, suc, ◌+◌, ◌-◌, ◌/◌, ◌%◌, ◌<◌, ◌≤◌}
 use mathlib.Core.Path.{◌≡◌, refl, sym, ap, ◌∙◌}
 use mathlib.Core.Bool.{Bool, true, false}
 use mathlib.Core.List.{List, [], ◌∷◌, ◌++◌, append-nil, append_assoc}
 use native.Mathlib.Omega.{arith}
-use borrow.Author.Tests.{eq-eqb, ne_eqb}
+use borrow.Author.Tests.{ne_eqb}
 use lib.Dec.{eqb, ltb}
+use Rattle.std.specs.List.{position_or_len}
+use Rattle.std.specs.Prelude.{position, Some, None}
+use Rattle.std.proofs.lemmas.List.Quantifiers.{position-Some}
+use Rattle.std.proofs.lemmas.List.Sums.{fails_before_first}
+use Rattle.std.proofs.lemmas.Grind.{common_steps}
 use lib.ListN.{length, drop, get_or, length-drop}
-use lib.Seq.{drop-append_seam, drop-cons}
+use lib.Seq.{drop-append_seam}
 use Rattle.rules.specs.Rows.{when◌answer◌else◌}
 use Rattle.text.specs.Ascii.{ascii}
 use Rattle.text.specs.Text.{digit, decimal_in, decimal_of}
@@ -35,7 +40,7 @@ use Rattle.recorder_file.specs.Check.Found.{ends, passes}
 use Rattle.recorder_file.specs.declared.Progress.{Progress}
 use Rattle.recorder_file.specs.declared.Verdict.{Verdict}
 use Rattle.recorder_file.specs.declared.Verdict.TheVariants.{Agrees, Differs, Bad}
-use Rattle.recorder_file.proofs.Laws.{check_laws}
+use Rattle.recorder_file.specs.Laws.{check_laws}
 
 -- behind a call that passes the check goes on, with fewer bytes
 module _ (p : Progress) (rest : List ℕ) where
@@ -150,13 +155,25 @@ first_line_is_the_verdict c =
     let first = first_line_lem c.verdict c.told in
     (first, ap (λ (l : List ℕ). drop (length l) (said_of c)) first ∙ drop-append_seam (line_of c.verdict) c.told)
 
--- one byte more of a line, and its last one
-pub line_goes_on : (s : List ℕ) (i : ℕ) → i < length s → (get_or s i 0 ≡ 10 → ⊥)
-    → length (first_line (drop i s)) ≡ suc (length (first_line (drop (i + 1) s)))
-line_goes_on s i h e =
-    let more : suc i ≡ i + 1 = omega arith in
-    ap (λ (l : List ℕ). length (first_line l)) (drop-cons s i 0 h)
-    ∙ rw (ne_eqb (get_or s i 0) 10 e) (ap (λ (k : ℕ). suc (length (first_line (drop k s)))) more)
+-- the first line ends behind the first byte 10
+ends_in : (s : List ℕ) (i : ℕ) → i < length s → eqb (get_or s i 0) 10 ≡ true → ((k : ℕ) → k < i → eqb (get_or s k 0) 10 ≡ false)
+    → i + 1 ≡ length (first_line s)
+ends_in [] i h at before = absurd (omega arith)
+ends_in (b ∷ s) zero h at before = rw at refl
+ends_in (b ∷ s) (suc i) h at before =
+    rw (before 0 (omega arith)) (omega (arith, ends_in s i (omega arith) at (λ k l. before (suc k) (omega arith))))
 
-pub line_ends : (s : List ℕ) (i : ℕ) → i < length s → get_or s i 0 ≡ 10 → length (first_line (drop i s)) ≡ 1
-line_ends s i h e = ap (λ (l : List ℕ). length (first_line l)) (drop-cons s i 0 h) ∙ rw (eq-eqb (get_or s i 0) 10 e) refl
+never_in : (s : List ℕ) → ((k : ℕ) → k < length s → eqb (get_or s k 0) 10 ≡ false) → length s ≡ length (first_line s)
+never_in [] none = refl
+never_in (b ∷ s) none = rw (none 0 (omega arith)) (ap suc (never_in s (λ k l. none (suc k) (omega arith))))
+
+pub ends_at : (s : List ℕ) (i : ℕ) → position (λ (b : ℕ). eqb b 10) s ≡ Some i
+    → (i + 1 ≡ length (first_line s)) × (i + 1 ≤ length s)
+ends_at s i e =
+    let at = position-Some (λ (b : ℕ). eqb b 10) s i 0 e in
+    (ends_in s i at.0 at.1 at.2, omega (arith, at.0))
+
+pub never_ends : (s : List ℕ) → position (λ (b : ℕ). eqb b 10) s ≡ None → length s ≡ length (first_line s)
+never_ends s e =
+    let most : length s ≤ position_or_len (λ (b : ℕ). eqb b 10) s = grind (arith, common_steps) in
+    never_in s (λ k l. fails_before_first (λ (b : ℕ). eqb b 10) s k 0 (omega arith))

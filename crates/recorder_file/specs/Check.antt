@@ -1,6 +1,6 @@
 -- The check of a recorder file: its calls are replayed on the table, and each recorded answer is held against the one that the rules give.
 -- Assumes nothing.
-use Rattle.std.specs.Prelude.{ℕ, zero, suc, ◌+◌, ◌≡◌, true, false, List, [], ◌++◌, length, take, drop, replicate}
+use Rattle.std.specs.Prelude.{ℕ, zero, suc, ◌+◌, ◌≡◌, true, false, List, [], ◌++◌, length, drop, replicate}
 use Rattle.rules.specs.Rows.{when◌answer◌else◌}
 use Rattle.connection.specs.declared.Connection.{Connection}
 use Rattle.connection.specs.Connection.{all_zero}
@@ -12,8 +12,7 @@ use Rattle.trace.specs.declared.Record.{Record}
 use Rattle.trace.specs.declared.Next.{Next}
 use Rattle.trace.specs.declared.Next.TheVariants as stands
 use Rattle.recorded_answer.specs.Answer.{most_answer_bytes, is_right, behind_of}
-use Rattle.recorded_answer.specs.declared.Behind.{Behind}
-use Rattle.recorded_answer.specs.declared.Behind.TheVariants.{NoAnswer, Recorded}
+use Rattle.std.specs.Prelude.{Option, Some, None}
 use Rattle.replay_lines.specs.Replay.{any_out}
 use Rattle.recorder_file.specs.Said.{line_of, difference_told, bad_told, most_said, first_line}
 use Rattle.recorder_file.specs.declared.Verdict.{Verdict}
@@ -58,9 +57,9 @@ held_against passed r a recorded left =
     ends (difference passed r recorded left)
 
 -- CHECKER-7: a call without a recorded answer is replayed and not judged
-abbrev pub found_at_call : Passed → Record → Behind → List ℕ → LeftAt → Found
-found_at_call passed r NoAnswer behind left = passes (size_of r) 0 left.table
-found_at_call passed r (Recorded a) behind left = held_against passed r a (record_bytes behind a) left
+abbrev pub found_at_call : Passed → Record → Option Record → List ℕ → LeftAt → Found
+found_at_call passed r None behind left = passes (size_of r) 0 left.table
+found_at_call passed r (Some a) behind left = held_against passed r a (record_bytes behind a) left
 
 -- TRACE-2, TRACE-6: what the call of a record that stands first leaves on the table: the answer that the rules give
 abbrev pub left_by : List Connection → Record → List ℕ → LeftAt
@@ -89,6 +88,10 @@ abbrev pub one_call_more : Passed → ℕ → ℕ → Passed
 one_call_more passed used judged =
     record { calls = passed.calls + 1; judged = passed.judged + judged; offset = passed.offset + used }
 
+-- all that is counted, as one number: no record takes fewer bytes than it counts
+abbrev pub reckoned : Passed → ℕ
+reckoned passed = passed.calls + passed.judged + passed.offset
+
 -- CHECKER-11: the end of the check is its last turn, and all that it says; before it nothing is said
 abbrev pub turn_by : Progress → Found → (List ℕ → List ℕ) → Turn Progress
 turn_by p (ends c) lent =
@@ -113,10 +116,9 @@ abbrev pub most_seen : ℕ
 most_seen = most_record + (fields_size + most_answer_bytes)
 
 -- CHECKER-15: the check as a machine
-abbrev pub checker : Machine
+abbrev pub checker : Machine Progress
 checker =
     record {
-      State = Progress;
       first = start_of;
       heading = [];
       stopped = λ (p : Progress). p.stopped;
@@ -159,6 +161,6 @@ FirstLineIsTheVerdict = (c : Checked)
 
 -- CHECKER-15: at the end of a run the out buffer holds what is said of the bytes that were read. Which bytes these are is not said of a
 -- program: no contract can speak of what is read from a file.
-pub record SaidOfTheFile (out : List ℕ) (at : ℕ) : Type 0 where
+pub record SaidOfTheFile (out : List ℕ) : Type 0 where
   pub read : List ℕ
-  pub whole : take at out ≡ said_of (checked_of read)
+  pub whole : out ≡ said_of (checked_of read)

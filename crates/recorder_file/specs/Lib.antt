@@ -1,3 +1,5 @@
 pub mod Said
 pub mod Check
-pub mod Turn
+pub mod Sizes
+pub mod Written
+pub mod Laws

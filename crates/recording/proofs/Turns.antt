@@ -1,12 +1,12 @@
 -- The turns of a program: each carries the cutting of two files on, and after the last all is printed.
 -- Assumes nothing.
-use Prim.Native.Nat.{ℕ, ◌≤◌}
+use Prim.Native.Nat.{ℕ}
 use mathlib.Core.Path.{◌≡◌, refl, sym, ap, subst, ◌∙◌}
 use mathlib.Core.Bool.{Bool, true, false, false≢true}
 use mathlib.Core.List.{List, [], ◌++◌, append_assoc, append-nil}
 use native.Mathlib.Omega.{arith}
-use lib.ListN.{length, take}
-use Rattle.text.specs.Text.{PutAt, place_of}
+use lib.ListN.{length}
+use Rattle.text.specs.Text.{held_of}
 use Rattle.text.proofs.Places.{placed, put_behind}
 use Rattle.window.specs.Window.{low_of, was_read, ToppedUp}
 use Rattle.window.specs.declared.Window.{Window}
@@ -18,14 +18,13 @@ use Rattle.packet.specs.Sizes.{most_packet}
 use Rattle.links.specs.declared.State.{State}
 use Rattle.links.specs.declared.Taken.{Taken}
 use Rattle.text.specs.Line.{end_of}
-use Rattle.recording.specs.Printed.{heading, most_line}
+use Rattle.recording.specs.Printed.{heading, line_of, most_line}
 use Rattle.recording.specs.Progress.{start_of, windowed, taken_at, stepped_of, UsesNoMore, Lies}
 use Rattle.recording.specs.Cut.{cut_of}
 use Rattle.recording.specs.Whole.{Reads, Cuts, TurnOf, Cutting, PrintedToTheEnd, PrintedWhole, BothHaveRoom, BothMovedNoMore}
 use Rattle.recording.specs.Whole.Reads.{stays, refills}
 use Rattle.recording.specs.Whole.Cuts.{starts, reads, steps}
 use Rattle.recording.specs.declared.Progress.{Progress}
-use Rattle.recording.specs.declared.Advanced.{Advanced}
 use Rattle.recording.proofs.Windows.{uses, step_keeps}
 use Rattle.recording.proofs.Whole.{pieces_as_whole}
 
@@ -56,9 +55,9 @@ topped_reads before w after r size up = by (low_of most_packet w) refl
     }
 
 -- before the first turn: the out buffer holds the heading
-pub cutting_first : (callers : List ℕ) (ours : ℕ) (state : State) (normal redundant : List ℕ) {p : Progress} {out : List ℕ} {at : ℕ} → p ≡ start_of state → take at out ≡ heading
-    → Cutting callers ours state normal redundant p out at
-cutting_first callers ours state normal redundant {p} {out} {at} start headed = record {
+pub cutting_first : (callers : List ℕ) (ours : ℕ) (state : State) (normal redundant : List ℕ) {p : Progress} {out : List ℕ} → p ≡ start_of state → out ≡ heading
+    → Cutting callers ours state normal redundant p out
+cutting_first callers ours state normal redundant {p} {out} start headed = record {
   normal_read = [];
   redundant_read = [];
   written = [];
@@ -84,8 +83,8 @@ step_moves p taken normal redundant used was =
     (λ named. moved_used most_packet redundant taken.used p.redundant (used.1 named)) was.0 was.1
 
 -- a turn carries the cutting on
-module _ (callers : List ℕ) (ours : ℕ) (state : State) (normal redundant : List ℕ) (p : Progress) (out : List ℕ) (at : ℕ) (normal_after redundant_after out_after : List ℕ) (a : Advanced)
-    (turn : TurnOf normal redundant callers ours p out at normal_after redundant_after out_after a) where
+module _ (callers : List ℕ) (ours : ℕ) (state : State) (normal redundant : List ℕ) (p : Progress) (room : ℕ) (out : List ℕ) (normal_after redundant_after out_after : List ℕ) (after : Progress)
+    (turn : TurnOf normal redundant callers ours p room out normal_after redundant_after out_after after) where
   -- the progress with its windows topped up, and the step over them
   abbrev lent : Progress
   lent = windowed turn.first.window turn.second.window p
@@ -93,12 +92,12 @@ module _ (callers : List ℕ) (ours : ℕ) (state : State) (normal redundant : L
   abbrev taken : Taken
   taken = taken_at normal_after redundant_after callers ours lent
 
-  pub turn_cuts : length normal_after ≡ length normal → length redundant_after ≡ length redundant → a.next ≤ length out → p.last ≡ false
-      → Cutting callers ours state normal redundant p out at → Cutting callers ours state normal_after redundant_after a.progress out_after a.next
-  turn_cuts normal_size redundant_size within goes was =
+  pub turn_cuts : length normal_after ≡ length normal → length redundant_after ≡ length redundant → p.last ≡ false
+      → Cutting callers ours state normal redundant p out → Cutting callers ours state normal_after redundant_after after out_after
+  turn_cuts normal_size redundant_size goes was =
       let n = topped_reads normal p.normal normal_after turn.first normal_size turn.up.up_normal in
       let r = topped_reads redundant p.redundant redundant_after turn.second redundant_size turn.up.up_redundant in
-      let place = placed most_line was.written out at in
+      let place = placed most_line room was.written out in
       let stay = ended_stays taken lent in
       record {
         normal_read = was.normal_read ++ n.read;
@@ -110,24 +109,24 @@ module _ (callers : List ℕ) (ours : ℕ) (state : State) (normal redundant : L
             let run =
             steps (reads (was.cuts (n.read ++ normal_rest) (r.read ++ redundant_rest) (n.none normal_rest all_normal) (r.none redundant_rest all_redundant)) (n.on normal_rest all_normal) (r.on redundant_rest all_redundant))
             goes turn.up.high_normal turn.up.high_redundant in
-            subst (λ (l : List ℕ). Cuts callers ours state l (was.redundant_read ++ r.read ++ redundant_rest) normal_after redundant_after a.progress normal_rest redundant_rest (place.before ++ take a.next out_after))
+            subst (λ (l : List ℕ). Cuts callers ours state l (was.redundant_read ++ r.read ++ redundant_rest) normal_after redundant_after after normal_rest redundant_rest (place.before ++ out_after))
             (sym (append_assoc was.normal_read n.read normal_rest))
-            (subst (λ (l : List ℕ). Cuts callers ours state (was.normal_read ++ (n.read ++ normal_rest)) l normal_after redundant_after a.progress normal_rest redundant_rest (place.before ++ take a.next out_after))
+            (subst (λ (l : List ℕ). Cuts callers ours state (was.normal_read ++ (n.read ++ normal_rest)) l normal_after redundant_after after normal_rest redundant_rest (place.before ++ out_after))
             (sym (append_assoc was.redundant_read r.read redundant_rest))
-            (subst (λ (q : Progress). Cuts callers ours state (was.normal_read ++ (n.read ++ normal_rest)) (was.redundant_read ++ (r.read ++ redundant_rest)) normal_after redundant_after q normal_rest redundant_rest (place.before ++ take a.next out_after))
+            (subst (λ (q : Progress). Cuts callers ours state (was.normal_read ++ (n.read ++ normal_rest)) (was.redundant_read ++ (r.read ++ redundant_rest)) normal_after redundant_after q normal_rest redundant_rest (place.before ++ out_after))
             (sym turn.advanced.progress)
             (subst (λ (l : List ℕ). Cuts callers ours state (was.normal_read ++ (n.read ++ normal_rest)) (was.redundant_read ++ (r.read ++ redundant_rest)) normal_after redundant_after (stepped_of taken lent) normal_rest redundant_rest l)
-            (sym (put_behind place turn.advanced.put within)) run)));
+            (sym (put_behind was.written out (held_of most_line room out) (line_of taken) place turn.advanced.put)) run)));
       }
 
 -- CUT-6: the refills of a turn move no more bytes than they read
-pub turn_moves : (callers : List ℕ) (ours : ℕ) (normal redundant : List ℕ) (p : Progress) (out : List ℕ) (at : ℕ) (normal_after redundant_after out_after : List ℕ) (a : Advanced)
-    → TurnOf normal redundant callers ours p out at normal_after redundant_after out_after a → length normal_after ≡ length normal → length redundant_after ≡ length redundant
+pub turn_moves : (callers : List ℕ) (ours : ℕ) (normal redundant : List ℕ) (p : Progress) (room : ℕ) (out : List ℕ) (normal_after redundant_after out_after : List ℕ) (after : Progress)
+    → TurnOf normal redundant callers ours p room out normal_after redundant_after out_after after → length normal_after ≡ length normal → length redundant_after ≡ length redundant
     → BothHaveRoom (length normal) (length redundant) → Lies p (length normal) (length redundant) → BothMovedNoMore p (length normal) (length redundant)
-    → BothMovedNoMore a.progress (length normal) (length redundant)
-turn_moves callers ours normal redundant p out at normal_after redundant_after out_after a turn normal_size redundant_size room lies was =
-    let n = moved_topped_up most_packet normal p.normal normal_after turn.first room.0 turn.up.up_normal turn.up.read_normal lies.0 was.0 in
-    let r = moved_topped_up most_packet redundant p.redundant redundant_after turn.second room.1 turn.up.up_redundant turn.up.read_redundant lies.1 was.1 in
+    → BothMovedNoMore after (length normal) (length redundant)
+turn_moves callers ours normal redundant p room out normal_after redundant_after out_after after turn normal_size redundant_size enough lies was =
+    let n = moved_topped_up most_packet normal p.normal normal_after turn.first enough.0 turn.up.up_normal turn.up.read_normal lies.0 was.0 in
+    let r = moved_topped_up most_packet redundant p.redundant redundant_after turn.second enough.1 turn.up.up_redundant turn.up.read_redundant lies.1 was.1 in
     let lent = windowed turn.first.window turn.second.window p in
     let lies_lent : Lies lent (length normal_after) (length redundant_after) = ((n.1.0, omega (arith, n.1.1, normal_size)), (r.1.0, omega (arith, r.1.1, redundant_size))) in
     let taken = taken_at normal_after redundant_after callers ours lent in
@@ -135,25 +134,25 @@ turn_moves callers ours normal redundant p out at normal_after redundant_after o
     subst (λ (q : Progress). BothMovedNoMore q (length normal) (length redundant)) (sym turn.advanced.progress) (step_moves lent taken _ _ used (n.0, r.0))
 
 -- after the last step only the last line is left to print
-pub printed_to_the_end : (callers : List ℕ) (ours : ℕ) (state : State) (normal redundant : List ℕ) (p : Progress) (out : List ℕ) (at : ℕ) → Cutting callers ours state normal redundant p out at → p.last ≡ true
-    → PrintedToTheEnd callers ours state out at p.handed_up
-printed_to_the_end callers ours state normal redundant p out at was last = record {
+pub printed_to_the_end : (callers : List ℕ) (ours : ℕ) (state : State) (normal redundant : List ℕ) (p : Progress) (out : List ℕ) → Cutting callers ours state normal redundant p out → p.last ≡ true
+    → PrintedToTheEnd callers ours state out p.handed_up
+printed_to_the_end callers ours state normal redundant p out was last = record {
   normal_read = was.normal_read;
   redundant_read = was.redundant_read;
   written = was.written;
   whole =
-      pieces_as_whole callers ours state (was.normal_read ++ []) (was.redundant_read ++ []) normal redundant p [] [] (was.written ++ take at out) (was.cuts [] [] (λ _. refl) (λ _. refl)) last
+      pieces_as_whole callers ours state (was.normal_read ++ []) (was.redundant_read ++ []) normal redundant p [] [] (was.written ++ out) (was.cuts [] [] (λ _. refl) (λ _. refl)) last
       ∙ ap (λ (l : List ℕ). cut_of callers ours state l (was.redundant_read ++ [])) (append-nil was.normal_read) ∙ ap (cut_of callers ours state was.normal_read) (append-nil was.redundant_read);
 }
 
 -- once the last line is put, all is printed
-pub printed_whole : (callers : List ℕ) (ours : ℕ) (state : State) (out : List ℕ) (at count : ℕ) (after : List ℕ) (next : ℕ) → PrintedToTheEnd callers ours state out at count
-    → PutAt out (place_of most_line (length out) at) (end_of count) after next → next ≤ length out → PrintedWhole callers ours state after next
-printed_whole callers ours state out at count after next was put within =
-    let place = placed most_line was.written out at in
+pub printed_whole : (callers : List ℕ) (ours : ℕ) (state : State) (room : ℕ) (out : List ℕ) (count : ℕ) (after : List ℕ) → PrintedToTheEnd callers ours state out count
+    → after ≡ held_of most_line room out ++ end_of count → PrintedWhole callers ours state after
+printed_whole callers ours state room out count after was put =
+    let place = placed most_line room was.written out in
     record {
       normal_read = was.normal_read;
       redundant_read = was.redundant_read;
       written = place.before;
-      whole = put_behind place put within ∙ was.whole;
+      whole = put_behind was.written out (held_of most_line room out) (end_of count) place put ∙ was.whole;
     }

@@ -1,7 +1,7 @@
 -- A step over two windows uses no more than they have, so they lie within their buffers after it too; and two results that it allows agree.
 -- Assumes nothing.
 use Prim.Native.Nat.{ℕ, ◌+◌, ◌≤◌}
-use mathlib.Core.Path.{◌≡◌, refl, sym, ap₂, subst, ◌∙◌}
+use mathlib.Core.Path.{◌≡◌, refl, sym, subst, ◌∙◌}
 use mathlib.Core.Bool.{Bool, true, false, cond, false≢true}
 use mathlib.Core.List.{List}
 use native.Mathlib.Omega.{arith}
@@ -64,8 +64,4 @@ lies_after ns rs p after taken u l e =
     )
 
 pub advances_agree : AdvancesAgree
-advances_agree normal redundant callers ours p before at after after' r r' one other =
-    let next = one.put.place ∙ sym other.put.place in
-    let progress = one.progress ∙ sym other.progress in
-    let same : r ≡ r' = ap₂ (λ (q : Progress) (n : ℕ). record { progress = q; next = n }) progress next in
-    (one.put.bytes ∙ sym other.put.bytes, same)
+advances_agree normal redundant callers ours p before after after' r r' one other = (one.put ∙ sym other.put, one.progress ∙ sym other.progress)

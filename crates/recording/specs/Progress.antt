@@ -1,15 +1,13 @@
 -- How far two recorded links are cut: a step over their windows, with what it uses up, counts and prints.
 -- Assumes nothing.
-use Rattle.std.specs.Prelude.{ℕ, ◌+◌, ◌≤◌, ◌≡◌, Bool, true, false, cond, ◌||◌, List, eqb, length, take}
+use Rattle.std.specs.Prelude.{ℕ, ◌+◌, ◌≤◌, ◌≡◌, Bool, true, false, cond, ◌||◌, List, ◌++◌, eqb, length, take}
 use Rattle.window.specs.declared.Window.{Window}
 use Rattle.window.specs.Window.{empty_window, Within, used_of}
 use Rattle.links.specs.Table.{taken_of, user_data_of}
 use Rattle.links.specs.declared.State.{State}
 use Rattle.links.specs.declared.Taken.{Taken}
-use Rattle.text.specs.Text.{PutAt}
 use Rattle.recording.specs.Printed.{line_of}
 use Rattle.recording.specs.declared.Progress.{Progress}
-use Rattle.recording.specs.declared.Advanced.{Advanced}
 
 -- before the first step both windows are empty, and nothing was handed up
 abbrev pub start_of : State → Progress
@@ -64,15 +62,15 @@ CountsItsData normal redundant p taken =
 abbrev pub Lies : Progress → ℕ → ℕ → Type 0
 Lies p normal redundant = Within p.normal normal × Within p.redundant redundant
 
--- One step over the two windows, with its line put into an out buffer at a place.
-pub record AdvancedTo (normal redundant callers : List ℕ) (ours : ℕ) (p : Progress) (before : List ℕ) (at : ℕ) (after : List ℕ)
-    (r : Advanced) : Type 0 where
-  pub progress : r.progress ≡ stepped_of (taken_at normal redundant callers ours p) p
-  pub put : PutAt before at (line_of (taken_at normal redundant callers ours p)) after r.next
+-- One step over the two windows, with its line put behind the text that is held.
+pub record AdvancedTo (normal redundant callers : List ℕ) (ours : ℕ) (p : Progress) (before after : List ℕ) (result : Progress)
+    : Type 0 where
+  pub progress : result ≡ stepped_of (taken_at normal redundant callers ours p) p
+  pub put : after ≡ before ++ line_of (taken_at normal redundant callers ours p)
 
--- Two results that one input allows agree, in the progress, the place and every byte.
+-- Two results that one input allows agree, in the progress and every byte.
 abbrev pub AdvancesAgree : Type 0
 AdvancesAgree =
-    (normal redundant callers : List ℕ) (ours : ℕ) (p : Progress) (before : List ℕ) (at : ℕ) (after after' : List ℕ) (r r' : Advanced)
-    → AdvancedTo normal redundant callers ours p before at after r → AdvancedTo normal redundant callers ours p before at after' r'
+    (normal redundant callers : List ℕ) (ours : ℕ) (p : Progress) (before after after' : List ℕ) (r r' : Progress)
+    → AdvancedTo normal redundant callers ours p before after r → AdvancedTo normal redundant callers ours p before after' r'
     → (after ≡ after') × (r ≡ r')

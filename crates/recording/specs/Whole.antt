@@ -1,8 +1,8 @@
 -- CUT-3, the promise of the windows: however two files are read into them, what is printed is what `cut` prints for the whole files.
 -- Assumes nothing.
-use Rattle.std.specs.Prelude.{ℕ, ◌≤◌, ◌≡◌, true, false, List, [], ◌++◌, length, take, drop}
-use Rattle.text.specs.Text.{place_of}
-use Rattle.window.specs.Window.{unread, low_of, RefilledFrom, was_read, ToppedUp}
+use Rattle.std.specs.Prelude.{ℕ, ◌≤◌, ◌≡◌, true, false, List, [], ◌++◌, length, drop}
+use Rattle.text.specs.Text.{held_of}
+use Rattle.window.specs.Window.{unread, low_of, failed_by, RefilledFrom, was_read, ToppedUp}
 use Rattle.window.specs.MovedOnce.{RoomForTwo, MovedNoMoreThanRead}
 use Rattle.window.specs.declared.Window.{Window}
 use Rattle.window.specs.declared.Refilled.{Refilled}
@@ -14,7 +14,6 @@ use Rattle.recording.specs.Printed.{heading, line_of, most_line}
 use Rattle.recording.specs.Progress.{start_of, windowed, taken_at, last_answer, stepped_of, Lies, AdvancedTo}
 use Rattle.recording.specs.Cut.{Reach, reached_by, taken_from, cut_of}
 use Rattle.recording.specs.declared.Progress.{Progress}
-use Rattle.recording.specs.declared.Advanced.{Advanced}
 
 -- CUT-3: a window follows a file from a place: its unread bytes are the file's next ones, behind them come those that are still to be read,
 -- and where the file has ended there are none of these.
@@ -103,23 +102,23 @@ pub record BothToppedUp (normal redundant : List ℕ) (p : Progress) (normal_aft
   pub up_redundant : ToppedUp most_packet redundant p.redundant redundant_after second
   pub high_normal : low_of most_packet first.window ≡ false
   pub high_redundant : low_of most_packet second.window ≡ false
-  pub read_normal : first.failed ≡ false
-  pub read_redundant : second.failed ≡ false
+  pub read_normal : failed_by first.last ≡ false
+  pub read_redundant : failed_by second.last ≡ false
 
--- One turn: room for a line; both windows topped up; a step over them, with its line put into the out buffer.
-pub record TurnOf (normal redundant callers : List ℕ) (ours : ℕ) (p : Progress) (out : List ℕ) (at : ℕ)
-    (normal_after redundant_after out_after : List ℕ) (r : Advanced) : Type 0 where
+-- One turn: room for a line; both windows topped up; a step over them, with its line put behind the text that
+-- is held, in an out buffer with this room.
+pub record TurnOf (normal redundant callers : List ℕ) (ours : ℕ) (p : Progress) (room : ℕ) (out : List ℕ)
+    (normal_after redundant_after out_after : List ℕ) (result : Progress) : Type 0 where
   pub first : Refilled
   pub second : Refilled
   pub up : BothToppedUp normal redundant p normal_after redundant_after first second
   pub advanced :
-      AdvancedTo normal_after redundant_after callers ours (windowed first.window second.window p) out
-      (place_of most_line (length out) at) out_after r
+      AdvancedTo normal_after redundant_after callers ours (windowed first.window second.window p)
+      (held_of most_line room out) out_after result
 
 -- Between the turns: the bytes that were read of each file and the text that was written, so that with any bytes that follow, none where a
 -- file has ended, it is the cutting of two files that has printed what was written and what the out buffer holds.
-pub record Cutting (callers : List ℕ) (ours : ℕ) (state : State) (normal redundant : List ℕ) (p : Progress) (out : List ℕ) (at : ℕ)
-    : Type 0 where
+pub record Cutting (callers : List ℕ) (ours : ℕ) (state : State) (normal redundant : List ℕ) (p : Progress) (out : List ℕ) : Type 0 where
   pub normal_read : List ℕ
   pub redundant_read : List ℕ
   pub written : List ℕ
@@ -127,22 +126,22 @@ pub record Cutting (callers : List ℕ) (ours : ℕ) (state : State) (normal red
       → (p.normal.ended ≡ true → normal_rest ≡ []) → (p.redundant.ended ≡ true → redundant_rest ≡ [])
       → Cuts callers ours state (normal_read ++ normal_rest) (redundant_read ++ redundant_rest)
       normal redundant p normal_rest redundant_rest
-      (written ++ take at out)
+      (written ++ out)
 
 -- After the last step: what was written, what the out buffer holds and the last line, which counts the packets handed up, are what `cut`
 -- prints for the bytes that were read.
-pub record PrintedToTheEnd (callers : List ℕ) (ours : ℕ) (state : State) (out : List ℕ) (at : ℕ) (count : ℕ) : Type 0 where
+pub record PrintedToTheEnd (callers : List ℕ) (ours : ℕ) (state : State) (out : List ℕ) (count : ℕ) : Type 0 where
   pub normal_read : List ℕ
   pub redundant_read : List ℕ
   pub written : List ℕ
-  pub whole : written ++ take at out ++ end_of count ≡ cut_of callers ours state normal_read redundant_read
+  pub whole : written ++ out ++ end_of count ≡ cut_of callers ours state normal_read redundant_read
 
 -- At the end: what was written and what the out buffer holds is what `cut` prints for the bytes that were read.
-pub record PrintedWhole (callers : List ℕ) (ours : ℕ) (state : State) (out : List ℕ) (at : ℕ) : Type 0 where
+pub record PrintedWhole (callers : List ℕ) (ours : ℕ) (state : State) (out : List ℕ) : Type 0 where
   pub normal_read : List ℕ
   pub redundant_read : List ℕ
   pub written : List ℕ
-  pub whole : written ++ take at out ≡ cut_of callers ours state normal_read redundant_read
+  pub whole : written ++ out ≡ cut_of callers ours state normal_read redundant_read
 
 -- CUT-6: each link's buffer has room for two of the longest packets
 abbrev pub BothHaveRoom : ℕ → ℕ → Type 0
@@ -154,7 +153,5 @@ BothMovedNoMore p normal redundant =
     MovedNoMoreThanRead most_packet normal p.normal × MovedNoMoreThanRead most_packet redundant p.redundant
 
 -- Before the first turn: each link's buffer has room for two packets and the out buffer for a line, and the out buffer holds the heading.
-abbrev pub Headed : List ℕ → List ℕ → List ℕ → ℕ → Type 0
-Headed normal redundant out at =
-    BothHaveRoom (length normal) (length redundant)
-    × ((at ≤ length out) × (most_line ≤ length out) × (take at out ≡ heading))
+abbrev pub Headed : List ℕ → List ℕ → ℕ → List ℕ → Type 0
+Headed normal redundant room out = BothHaveRoom (length normal) (length redundant) × (most_line ≤ room) × (out ≡ heading)

@@ -1,8 +1,7 @@
 // Recorded links cut into packets: one step over the windows of two links, and the text that is printed for it; ids as words.
 #![tactic(auto)]
 
-ghost use Rattle.std.specs.Prelude.{◌≡◌, true, false, ◌+◌, ◌^◌, ◌≤◌, ◌<◌, length};
-ghost use Rattle.text.specs.Text.{PutAt};
+ghost use Rattle.std.specs.Prelude.{◌≡◌, true, false, ◌+◌, ◌^◌, ◌≤◌, ◌<◌, ◌++◌, length};
 ghost use Rattle.window.specs.Window.{low_of};
 ghost use Rattle.packet.specs.Sizes.{most_packet};
 ghost use Rattle.recording.specs.Printed.{heading, link_name, handed_up_text, line_of, most_link_name, most_handed_up, most_line};
@@ -10,6 +9,7 @@ ghost use Rattle.recording.specs.Progress.{start_of, windowed, taken_at, last_an
 ghost use Rattle.recording.specs.Ids.{digit_value, id_of};
 ghost use Rattle.recording.specs.Progress.{UsesNoMore, CountsItsData, Lies, AdvancedTo};
 
+use arrayvec::ArrayVec;
 use links::{State, Taken};
 use window::Window;
 
@@ -31,20 +31,6 @@ pub struct Progress {
     pub last: bool,
 }
 
-// CUT-5: what a word says: an id, where it is right.
-#[derive(Clone, Copy)]
-pub struct Id {
-    pub right: bool,
-    pub id: u32,
-}
-
-// The progress after a step, and the place after the line that was put for it.
-#[derive(Clone, Copy)]
-pub struct Advanced {
-    pub progress: Progress,
-    pub next: usize,
-}
-
 impl Progress {
     // Before the first step.
     pub fn start(state: State) -> Progress
@@ -63,69 +49,67 @@ impl Progress {
     pub fn windowed(self, normal: Window, redundant: Window) -> Progress
         ensures { result ≡ windowed normal redundant self }
     {
-        let state = self.state;
         Progress {
             normal,
             redundant,
-            state,
-            handed_up: self.handed_up,
-            last: self.last,
+            ..self
         }
     }
 }
 
 // The heading.
-pub fn put_heading(out: &mut [u8], at: usize) -> usize
-    requires { at + most_line ≤ length out.old }
-    ensures { PutAt out.old at heading out.new result }
+pub fn put_heading<const N: usize>(out: &mut ArrayVec<u8, N>)
+    requires { length out.old.items + most_line ≤ N }
+    ensures { out.new.items ≡ out.old.items ++ heading }
 {
-    text::put(out, at, b"link answer used type number data\n")
+    text::put(out, b"link answer used type number data\n");
 }
 
 // The name of a link.
-fn put_link(out: &mut [u8], at: usize, normal: bool) -> usize
-    requires { at + most_link_name ≤ length out.old }
-    ensures put_at { PutAt out.old at (link_name normal) out.new result }
-    ensures upper_bound { result ≤ at + most_link_name }
+fn put_link<const N: usize>(out: &mut ArrayVec<u8, N>, normal: bool)
+    requires { length out.old.items + most_link_name ≤ N }
+    ensures put { out.new.items ≡ out.old.items ++ link_name normal }
+    ensures upper_bound { length out.new.items ≤ length out.old.items + most_link_name }
 {
     if normal {
-        return text::put(out, at, b"normal");
+        text::put(out, b"normal");
+    } else {
+        text::put(out, b"redundant");
     }
-    text::put(out, at, b"redundant")
 }
 
 // The type, the number and the count of user data bytes, and the end of the line.
-fn put_handed_up(out: &mut [u8], at: usize, kind: u8, number: u16, size: usize) -> usize
-    requires { at + most_handed_up ≤ length out.old }
-    ensures put_at { PutAt out.old at (handed_up_text kind number size) out.new result }
-    ensures upper_bound { result ≤ at + most_handed_up }
+fn put_handed_up<const N: usize>(out: &mut ArrayVec<u8, N>, kind: u8, number: u16, size: usize)
+    requires { length out.old.items + most_handed_up ≤ N }
+    ensures put { out.new.items ≡ out.old.items ++ handed_up_text kind number size }
+    ensures upper_bound { length out.new.items ≤ length out.old.items + most_handed_up }
 {
-    let after_kind = text::put_number(out, at, kind as u64);
-    let after_number = text::put_number(out, after_kind, number as u64);
-    let after_size = text::put_number(out, after_number, size as u64);
-    text::put(out, after_size, b"\n")
+    text::put_number(out, u64::from(kind));
+    text::put_number(out, u64::from(number));
+    text::put_number(out, size as u64);
+    text::put(out, b"\n");
 }
 
 // The line of a step, whose user data has so many bytes.
-fn put_counted(out: &mut [u8], at: usize, taken: Taken, size: usize) -> usize
-    requires most_line_in_bounds { at + most_line ≤ length out.old }
+fn put_counted<const N: usize>(out: &mut ArrayVec<u8, N>, taken: Taken, size: usize)
+    requires most_line_in_bounds { length out.old.items + most_line ≤ N }
     requires size_value { size ≡ taken.size }
-    ensures put_at { PutAt out.old at (line_of taken) out.new result }
-    ensures upper_bound { result ≤ at + most_line }
+    ensures put { out.new.items ≡ out.old.items ++ line_of taken }
+    ensures upper_bound { length out.new.items ≤ length out.old.items + most_line }
 {
-    let after_link = put_link(out, at, taken.normal);
-    let after_answer = text::put_number(out, after_link, taken.answer as u64);
-    let after_used = text::put_number(out, after_answer, taken.used as u64);
-    put_handed_up(out, after_used, taken.kind, taken.number, size)
+    put_link(out, taken.normal);
+    text::put_number(out, u64::from(taken.answer));
+    text::put_number(out, taken.used as u64);
+    put_handed_up(out, taken.kind, taken.number, size);
 }
 
 // The line of a step.
-pub fn put_line(out: &mut [u8], at: usize, taken: Taken) -> usize
-    requires { at + most_line ≤ length out.old }
-    ensures put_at { PutAt out.old at (line_of taken) out.new result }
-    ensures upper_bound { result ≤ at + most_line }
+pub fn put_line<const N: usize>(out: &mut ArrayVec<u8, N>, taken: Taken)
+    requires { length out.old.items + most_line ≤ N }
+    ensures put { out.new.items ≡ out.old.items ++ line_of taken }
+    ensures upper_bound { length out.new.items ≤ length out.old.items + most_line }
 {
-    put_counted(out, at, taken, taken.size)
+    put_counted(out, taken, taken.size);
 }
 
 // One step over the two windows, through a reader of each, by the list of callers and our own id.
@@ -139,15 +123,11 @@ fn taken_at<'a>(
     requires { Lies p (length normal.now) (length redundant.now) }
     ensures { result ≡ taken_at normal.now redundant.now callers.now ours p }
 {
-    let normal_from = p.normal.from;
-    let normal_to = p.normal.to;
-    let redundant_from = p.redundant.from;
-    let redundant_to = p.redundant.to;
     link_reader::take_by_readers(
-        &normal[..normal_to],
-        normal_from,
-        &redundant[..redundant_to],
-        redundant_from,
+        &normal[..p.normal.to],
+        p.normal.from,
+        &redundant[..p.redundant.to],
+        p.redundant.from,
         callers,
         ours,
         p.state,
@@ -160,146 +140,111 @@ fn count_data<'a>(normal: &'a [u8], redundant: &'a [u8], p: Progress, taken: Tak
     requires counts_its_data { CountsItsData normal.now redundant.now p taken }
     ensures { result ≡ taken.size }
 {
-    let normal_place = p.normal.from;
-    let normal_end = p.normal.to;
-    let redundant_place = p.redundant.from;
-    let redundant_end = p.redundant.to;
     let part = link_reader::user_data_by_readers(
-        &normal[..normal_end],
-        normal_place,
-        &redundant[..redundant_end],
-        redundant_place,
+        &normal[..p.normal.to],
+        p.normal.from,
+        &redundant[..p.redundant.to],
+        p.redundant.from,
         taken,
     );
     part.len()
 }
 
 // Whether a step was the last.
+#[tactic(auto, unfolding(crate::specs::Progress::last_answer))]
 fn last_answer(answer: u16) -> bool
     ensures { result ≡ last_answer answer }
 {
-    if answer == 301 {
-        return true;
-    }
-    answer == 308
+    matches!(answer, 301 | 308)
 }
 
 // The count of packets handed up, after a step.
+#[tactic(auto, unfolding(crate::specs::Progress::counted_of))]
 fn counted_of(handed_up: u64, answer: u16) -> u64
     requires { handed_up + 1 < 2 ^ 64 }
     ensures value { result ≡ counted_of handed_up answer }
     ensures upper_bound { result ≤ handed_up + 1 }
 {
     if answer == 0 {
-        return handed_up + 1;
+        handed_up + 1
+    } else {
+        handed_up
     }
-    handed_up
 }
 
 // The progress after a step.
+#[tactic(auto, unfolding(crate::specs::Progress::stepped_of))]
 fn stepped_of(p: Progress, taken: Taken) -> Progress
     requires uses_no_more { UsesNoMore taken p }
     requires handed_up_bound { p.handed_up + 1 < 2 ^ 64 }
     ensures { result ≡ stepped_of taken p }
 {
-    let state = taken.state;
-    let handed_up = counted_of(p.handed_up, taken.answer);
-    let last = last_answer(taken.answer);
-    let normal = p.normal;
-    let redundant = p.redundant;
+    let stepped = Progress {
+        state: taken.state,
+        handed_up: counted_of(p.handed_up, taken.answer),
+        last: last_answer(taken.answer),
+        ..p
+    };
     if taken.normal {
-        return Progress {
-            normal: normal.used(taken.used),
-            redundant,
-            state,
-            handed_up,
-            last,
-        };
-    }
-    Progress {
-        normal,
-        redundant: redundant.used(taken.used),
-        state,
-        handed_up,
-        last,
+        Progress {
+            normal: p.normal.used(taken.used),
+            ..stepped
+        }
+    } else {
+        Progress {
+            redundant: p.redundant.used(taken.used),
+            ..stepped
+        }
     }
 }
 
 // One step over windows that are not low, so that it is the step over the whole files (proofs/Whole); its line is put into the out buffer.
-pub fn advance<'a>(
+// Stays: the bound on the count, asked of a step and its two parts: a step adds to it, so it is no fact of a Progress.
+pub fn advance<'a, const N: usize>(
     normal: &'a [u8],
     redundant: &'a [u8],
-    out: &mut [u8],
-    at: usize,
+    out: &mut ArrayVec<u8, N>,
     callers: &'a [u8],
     ours: u32,
     p: Progress,
-) -> Advanced
+) -> Progress
     requires lies { Lies p (length normal.now) (length redundant.now) }
-    requires most_line_in_bounds { at + most_line ≤ length out.old }
+    requires most_line_in_bounds { length out.old.items + most_line ≤ N }
     requires normal_value { (low_of most_packet p.normal ≡ false) × (low_of most_packet p.redundant ≡ false) }
     requires handed_up_bound { p.handed_up + 1 < 2 ^ 64 }
-    ensures advanced_to { AdvancedTo normal.now redundant.now callers.now ours p
-        out.old at out.new result }
-    ensures lies_2 { Lies result.progress (length normal.now) (length redundant.now)
-        × (result.progress.handed_up ≤ p.handed_up + 1) × (result.next ≤ at + most_line) }
+    ensures advanced_to { AdvancedTo normal.now redundant.now callers.now ours p out.old.items out.new.items result }
+    ensures lies_2 { Lies result (length normal.now) (length redundant.now)
+        × (result.handed_up ≤ p.handed_up + 1) × (length out.new.items ≤ length out.old.items + most_line) }
 {
     let taken = taken_at(normal, redundant, callers, ours, p);
     let size = count_data(normal, redundant, p, taken);
-    let next = put_counted(out, at, taken, size);
-    Advanced {
-        progress: stepped_of(p, taken),
-        next,
-    }
+    put_counted(out, taken, size);
+    stepped_of(p, taken)
 }
 
-// CUT-5: the value of a hexadecimal digit, 16 for any other byte.
-fn digit_value(byte: u8) -> u8
+// CUT-5: the value of a hexadecimal digit; none of any other byte.
+#[tactic(auto, unfolding(crate::specs::Ids::digit_value))]
+fn digit_value(byte: u8) -> Option<u8>
     ensures { result ≡ digit_value byte }
 {
-    if byte < b'0' {
-        return 16;
+    match byte {
+        b'0'..=b'9' => Some(byte - b'0'),
+        b'A'..=b'F' => Some(byte - b'A' + 10),
+        b'a'..=b'f' => Some(byte - b'a' + 10),
+        _ => None,
     }
-    if byte <= b'9' {
-        return byte - b'0';
-    }
-    if byte < b'A' {
-        return 16;
-    }
-    if byte <= b'F' {
-        return byte - b'A' + 10;
-    }
-    if byte < b'a' {
-        return 16;
-    }
-    if byte <= b'f' {
-        return byte - b'a' + 10;
-    }
-    16
 }
 
 // CUT-5: the id that a word of eight hexadecimal digits says.
-pub fn id_of(word: &[u8]) -> Id
+pub fn id_of(word: &[u8]) -> Option<u32>
     ensures { result ≡ id_of word.now }
 {
     if word.len() != ID_DIGITS {
-        return Id {
-            right: false,
-            id: 0,
-        };
+        return None;
     }
     let mut id: u32 = 0;
-    let mut i: usize = 0;
-    while i < ID_DIGITS {
-        let value = digit_value(word[i]);
-        if value == 16 {
-            return Id {
-                right: false,
-                id: 0,
-            };
-        }
-        id = id * 16 + value as u32;
-        i += 1;
+    for byte in word {
+        id = id * 16 + u32::from(digit_value(*byte)?);
     }
-    Id { right: true, id }
+    Some(id)
 }

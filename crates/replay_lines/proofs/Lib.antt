@@ -1,5 +1,2 @@
-pub mod Lines
-pub mod Laws
-pub mod Slots
-pub mod Loop
+pub mod Lent
 pub mod Samples

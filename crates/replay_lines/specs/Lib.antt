@@ -1,4 +1,5 @@
 pub mod Printed
 pub mod Replay
-pub mod Slot
 pub mod Samples
+pub mod Lines
+pub mod Laws

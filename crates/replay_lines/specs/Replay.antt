@@ -56,10 +56,9 @@ abbrev pub turn_of : Progress → List ℕ → Turn Progress
 turn_of p rest = turn_on p (record_of rest) rest
 
 -- TRACE-16: the replay as a machine
-abbrev pub replay : Machine
+abbrev pub replay : Machine Progress
 replay =
     record {
-      State = Progress;
       first = start_of;
       heading = heading;
       stopped = λ (p : Progress). p.stopped;

@@ -1,6 +1,7 @@
 -- The round trips of DEMAND-2, for every type of message: what is written reads back as the same fields, and what is accepted writes back
 -- as the same bytes. Assumes nothing.
 use Prim.Native.Nat.{ℕ, ◌+◌, ◌-◌, ◌<◌, ◌≤◌, ◌^◌}
+use Rattle.std.proofs.lemmas.Bool.{and_parts}
 use mathlib.Core.Path.{◌≡◌, refl, ap, ap₂, ◌∙◌, sym, subst}
 use mathlib.Core.Bool.{true, false}
 use mathlib.Core.List.{List, [], ◌∷◌, ◌++◌}
@@ -12,7 +13,7 @@ use lib.Seq.{sets, sets-eq}
 use lib.Signed.{mag}
 use lib.IntN.{ℤ, pos, negsuc}
 use Rattle.clock.specs.Clock.{sign_magnitude_of, offset_read}
-use Rattle.clock.specs.declared.OffsetRead.{OffsetRead}
+use Rattle.clock.specs.declared.Offset.{Offset}
 use Rattle.clock.specs.declared.SignMagnitude.{SignMagnitude}
 use Rattle.clock.proofs.RoundTrip.{offset_there, offset_back}
 use Rattle.field.specs.Field.{field_of, bytes_of}
@@ -25,11 +26,11 @@ use Rattle.message.specs.Layout.{period_tail, empty_tail, check_tail, data_tail,
 use Rattle.message.specs.Read.{message_header_of, offset_pair_at, tail_of, data_of, later_stamp, check_over, whole_of, parsed_of}
 use Rattle.message.specs.declared.Header.{Header}
 use Rattle.message.specs.declared.Tail.{Tail}
-use Rattle.message.specs.declared.TailRead.{TailRead}
-use Rattle.message.specs.declared.Parsed.{Parsed}
+use Rattle.std.proofs.Common.{Option, Some, None}
+use Rattle.message.specs.Layout.{whole}
 use Rattle.message.specs.declared.After.{After}
 use Rattle.message.specs.declared.After.TheVariants.{Period, Nothing, Offsets, Check, Data}
-use Rattle.message.proofs.Rows.{and_left, and_right, fields_within, total_there}
+use Rattle.message.proofs.Rows.{fields_within, total_there}
 use Rattle.message.proofs.Steps.{parsed_listed}
 use Rattle.message.proofs.Accepted.{accepted}
 use Rattle.message_writing.specs.Writing.{header_bytes, data_in, after_bytes, message_bytes, lent_as_said, allowed_of, writes, message_written}
@@ -55,7 +56,7 @@ unfolding sign_magnitude_of
 pair_fits (pos n) h = (omega arith, omega arith)
 pair_fits (negsuc n) h = (omega arith, omega arith)
 
-whole_there : (h : Header) (t : Tail) → later_stamp h ≡ false → check_over t.check ≡ false → whole_of h (TailRead.Is t) ≡ Parsed.Whole h t
+whole_there : (h : Header) (t : Tail) → later_stamp h ≡ false → check_over t.check ≡ false → whole_of h (Some t) ≡ Some (whole h t)
 unfolding whole_of
 whole_there h t p q = rw (p, q)
 
@@ -79,7 +80,7 @@ module _ (h : Header) (t : Tail) (r : Ranges h t) where
   unfolding bytes_of
   fields_back after lent = fields_of_row (widths_of after) (after_fields after t) (header_bytes h) (data_in after lent) header_size refl (fits after)
 
-  tail_from_lem : (after : After) (n : ℕ) → lent_as_said after t.«data» n ≡ true → tail_from after (after_fields after t) n ≡ TailRead.Is (only_of after t)
+  tail_from_lem : (after : After) (n : ℕ) → lent_as_said after t.«data» n ≡ true → tail_from after (after_fields after t) n ≡ Some (only_of after t)
   tail_from_lem Period n e = refl
   tail_from_lem Nothing n e = refl
   tail_from_lem Offsets n e = rw (offset_there t.min.0 r.min, offset_there t.max.0 r.max)
@@ -105,20 +106,20 @@ module _ (h : Header) (t : Tail) (r : Ranges h t) where
 
   -- what the table allows reads back as the header and what its type has of the tail
   pub written_reads_back_only : (lent : List ℕ) → allowed_of h t (length lent) ≡ true
-      → parsed_of (message_bytes h t lent) ≡ Parsed.Whole h (only_of (table_of h.kind).after t)
+      → parsed_of (message_bytes h t lent) ≡ Some (whole h (only_of (table_of h.kind).after t))
   written_reads_back_only lent a =
       let parts = allowed_parts h t (length lent) a in
       let after = (table_of h.kind).after in
       let m = message_bytes h t lent in
       let listed : lists (table_of h.kind) (length m) ≡ true = rw (size_is_total h t lent a) parts.total_listed in
-      let tail : tail_of after m ≡ TailRead.Is (only_of after t)
+      let tail : tail_of after m ≡ Some (only_of after t)
       = ap (λ (f : List ℕ). tail_from after f (length m - header_size)) (fields_back after lent)
       ∙ tail_from_lem after (length m - header_size) (counted after lent ∙ parts.count) in
-      parsed_listed m h (table_of h.kind) (sym (header_back (after_bytes after t lent))) refl (TailRead.Is (only_of after t)) (sym tail) listed
+      parsed_listed m h (table_of h.kind) (sym (header_back (after_bytes after t lent))) refl (Some (only_of after t)) (sym tail) listed
       ∙ whole_there h (only_of after t) parts.stamps (check_only after parts.check)
 
-  pub written_reads_back : (lent : List ℕ) → Allowed h t lent → parsed_of (message_bytes h t lent) ≡ Parsed.Whole h t
-  written_reads_back lent a = written_reads_back_only lent a.by_table ∙ ap (Parsed.Whole h) a.only
+  pub written_reads_back : (lent : List ℕ) → Allowed h t lent → parsed_of (message_bytes h t lent) ≡ Some (whole h t)
+  written_reads_back lent a = written_reads_back_only lent a.by_table ∙ ap (λ (u : Tail). Some (whole h u)) a.only
 
 -- and the application data of type 6 as the same bytes
 pub data_reads_back : (h : Header) (t : Tail) (lent : List ℕ) → h.kind ≡ application → data_of (message_bytes h t lent) ≡ lent
@@ -126,22 +127,19 @@ unfolding table_of bytes_of
 data_reads_back h t lent e = rw e
 
 -- ---- accepted writes back
-no_tail : {A : Type 0} (t : Tail) → TailRead.Malformed ≡ TailRead.Is t → A
-no_tail t e = let z : ◌≡◌ {A = ℕ} 0 1 = cc in let n : ⊥ = omega arith in absurd n
-
-same_read : (t u : Tail) → TailRead.Is u ≡ TailRead.Is t → u ≡ t
+same_read : (t u : Tail) → Some u ≡ Some t → u ≡ t
 same_read t u e = cc
 
-offsets_there : (a b c d : ℕ) (t : Tail) (min max : OffsetRead) → offset_read a b ≡ min → offset_read c d ≡ max → offsets_from min max ≡ TailRead.Is t
+offsets_there : (a b c d : ℕ) (t : Tail) (min max : Option Offset) → offset_read a b ≡ min → offset_read c d ≡ max → offsets_from min max ≡ Some t
     → after_fields Offsets t ≡ a ∷ b ∷ c ∷ d ∷ []
-offsets_there a b c d t OffsetRead.Malformed max p q e = no_tail t e
-offsets_there a b c d t (OffsetRead.Is min) OffsetRead.Malformed p q e = no_tail t e
-offsets_there a b c d t (OffsetRead.Is min) (OffsetRead.Is max) p q e =
+offsets_there a b c d t None max p q e = cc
+offsets_there a b c d t (Some min) None p q e = cc
+offsets_there a b c d t (Some min) (Some max) p q e =
     ap (after_fields Offsets) (sym (same_read t (offsets_tail min max) e))
     ∙ ap₂ (λ (x y : SignMagnitude). x.sign ∷ x.magnitude ∷ y.sign ∷ y.magnitude ∷ []) (offset_back a b min p) (offset_back c d max q)
 
 -- the fields after the header are those of the tail that was read
-fields_there : (after : After) (s : List ℕ) (t : Tail) → tail_of after s ≡ TailRead.Is t → after_fields after t ≡ fields_of (widths_of after) s header_size
+fields_there : (after : After) (s : List ℕ) (t : Tail) → tail_of after s ≡ Some t → after_fields after t ≡ fields_of (widths_of after) s header_size
 fields_there Period s t e = ap (after_fields Period) (sym (same_read t (period_tail (field_of s header_size 4)) e))
 fields_there Nothing s t e = refl
 fields_there Offsets s t e =
@@ -149,7 +147,7 @@ fields_there Offsets s t e =
 fields_there Check s t e = ap (after_fields Check) (sym (same_read t (check_tail (field_of s header_size 1)) e))
 fields_there Data s t e = refl
 
-pub accepted_writes_back : (s : List ℕ) (h : Header) (t : Tail) → Bytes s → parsed_of s ≡ Parsed.Whole h t → message_bytes h t (data_of s) ≡ s
+pub accepted_writes_back : (s : List ℕ) (h : Header) (t : Tail) → Bytes s → parsed_of s ≡ Some (whole h t) → message_bytes h t (data_of s) ≡ s
 accepted_writes_back s h t b e =
     let x = accepted s h t e in
     let type = (message_header_of s).kind in
@@ -164,20 +162,20 @@ accepted_writes_back s h t b e =
     ∙ take-append-drop header_size s
 
 -- ---- an accepted message is one that is written, in the same bytes
-offsets_only : (t : Tail) (min max : OffsetRead) → offsets_from min max ≡ TailRead.Is t → only_of Offsets t ≡ t
-offsets_only t OffsetRead.Malformed max e = no_tail t e
-offsets_only t (OffsetRead.Is min) OffsetRead.Malformed e = no_tail t e
-offsets_only t (OffsetRead.Is min) (OffsetRead.Is max) e =
+offsets_only : (t : Tail) (min max : Option Offset) → offsets_from min max ≡ Some t → only_of Offsets t ≡ t
+offsets_only t None max e = cc
+offsets_only t (Some min) None e = cc
+offsets_only t (Some min) (Some max) e =
     subst (λ (u : Tail). only_of Offsets u ≡ u) (same_read t (offsets_tail min max) e) refl
 
-only_there : (after : After) (s : List ℕ) (t : Tail) → tail_of after s ≡ TailRead.Is t → only_of after t ≡ t
+only_there : (after : After) (s : List ℕ) (t : Tail) → tail_of after s ≡ Some t → only_of after t ≡ t
 only_there Period s t e = subst (λ (u : Tail). only_of Period u ≡ u) (same_read t (period_tail (field_of s header_size 4)) e) refl
 only_there Nothing s t e = same_read t empty_tail e
 only_there Offsets s t e = offsets_only t (offset_pair_at s header_size) (offset_pair_at s max_at) e
 only_there Check s t e = subst (λ (u : Tail). only_of Check u ≡ u) (same_read t (check_tail (field_of s header_size 1)) e) refl
 only_there Data s t e = subst (λ (u : Tail). only_of Data u ≡ u) (same_read t (data_tail (length s - header_size)) e) refl
 
-count_there : (after : After) (s : List ℕ) (t : Tail) → tail_of after s ≡ TailRead.Is t → lent_as_said after t.«data» (length (data_of s)) ≡ true
+count_there : (after : After) (s : List ℕ) (t : Tail) → tail_of after s ≡ Some t → lent_as_said after t.«data» (length (data_of s)) ≡ true
 count_there Period s t e = refl
 count_there Nothing s t e = refl
 count_there Offsets s t e = refl
@@ -185,7 +183,7 @@ count_there Check s t e = refl
 count_there Data s t e =
     eq-eqb t.«data» (length (drop header_size s)) (sym (ap (λ (u : Tail). u.«data») (same_read t (data_tail (length s - header_size)) e)) ∙ sym (length-drop header_size s))
 
-pub accepted_is_allowed : (s : List ℕ) (h : Header) (t : Tail) → parsed_of s ≡ Parsed.Whole h t → Allowed h t (data_of s)
+pub accepted_is_allowed : (s : List ℕ) (h : Header) (t : Tail) → parsed_of s ≡ Some (whole h t) → Allowed h t (data_of s)
 accepted_is_allowed s h t e =
     let x = accepted s h t e in
     let type = (message_header_of s).kind in
@@ -203,7 +201,7 @@ accepted_is_allowed s h t e =
 module _ (out : List ℕ) (h : Header) (t : Tail) (lent : List ℕ) (e : writes (length out) h t (length lent) ≡ true) where
   pub written_is_allowed : allowed_of h t (length lent) ≡ true
   unfolding writes
-  written_is_allowed = and_left (allowed_of h t (length lent)) (leb (total_of (table_of h.kind) (length lent)) (length out)) e
+  written_is_allowed = (and_parts (allowed_of h t (length lent)) (leb (total_of (table_of h.kind) (length lent)) (length out)) e).0
 
   pub written_is_message : message_written (length out) h t lent ≡ message_bytes h t lent
   unfolding message_written
@@ -214,7 +212,7 @@ module _ (out : List ℕ) (h : Header) (t : Tail) (lent : List ℕ) (e : writes 
   room =
       rw (size_is_total h t lent written_is_allowed)
       (leb-true (total_of (table_of h.kind) (length lent)) (length out)
-      (and_right (allowed_of h t (length lent)) (leb (total_of (table_of h.kind) (length lent)) (length out)) e))
+      (and_parts (allowed_of h t (length lent)) (leb (total_of (table_of h.kind) (length lent)) (length out)) e).1)
 
   pub out_is : let bytes = message_written (length out) h t lent in sets out 0 bytes ≡ message_bytes h t lent ++ drop (length bytes) out
   out_is =

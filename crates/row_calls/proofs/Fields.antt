@@ -1,6 +1,7 @@
 -- Fields by the list of their widths, one after the other: where each stands, what is written up to it, and whether its number fits.
 -- Assumes nothing.
 use Prim.Native.Nat.{ℕ, zero, suc, ◌+◌, ◌^◌, ◌<◌, ◌≤◌}
+use Rattle.std.proofs.lemmas.Bool.{and_parts}
 use mathlib.Core.Path.{◌≡◌, refl, sym, ap, ap₂, subst, ◌∙◌}
 use mathlib.Core.Bool.{Bool, true, false, ◌&&◌}
 use mathlib.Core.List.{List, [], ◌∷◌, ◌++◌, append_assoc, append-nil}
@@ -16,7 +17,6 @@ use Rattle.field.specs.Row.{fields_from, fields_of, row_of, width_of, FitsRow}
 use Rattle.field.proofs.Field.{length_bytes, written_read}
 use Rattle.field.proofs.Row.{fields_of_row}
 use Rattle.field.proofs.Stores.{stores_append, copied}
-use Rattle.message.proofs.Rows.{and_left, and_right}
 use Rattle.connection_row.specs.Row.{row_widths, row_size}
 use Rattle.connection_row.proofs.Writes.{all_stored}
 use Rattle.row_calls.specs.Numbers.{field_count, fits}
@@ -129,8 +129,8 @@ narrow (w ∷ ws) = leb w 4 && narrow ws
 
 narrow_at : (ws : List ℕ) (i : ℕ) → narrow ws ≡ true → get_or ws i 0 ≤ 4
 narrow_at [] i e = omega arith
-narrow_at (w ∷ ws) zero e = leb-true w 4 (and_left (leb w 4) (narrow ws) e)
-narrow_at (w ∷ ws) (suc i) e = narrow_at ws i (and_right (leb w 4) (narrow ws) e)
+narrow_at (w ∷ ws) zero e = leb-true w 4 (and_parts (leb w 4) (narrow ws) e).0
+narrow_at (w ∷ ws) (suc i) e = narrow_at ws i (and_parts (leb w 4) (narrow ws) e).1
 
 -- what is known of the i-th field of a row that is at its place
 pub record Field (i at w : ℕ) : Type 0 where
@@ -196,7 +196,7 @@ fits_row [] [] e = tt
 fits_row [] (x ∷ xs) e = absurd (subst T (sym e) tt)
 fits_row (w ∷ ws) [] e = absurd (subst T (sym e) tt)
 fits_row (w ∷ ws) (x ∷ xs) e =
-    (ltb-true x (256 ^ w) (and_left (ltb x (256 ^ w)) (fits ws xs) e), fits_row ws xs (and_right (ltb x (256 ^ w)) (fits ws xs) e))
+    (ltb-true x (256 ^ w) (and_parts (ltb x (256 ^ w)) (fits ws xs) e).0, fits_row ws xs (and_parts (ltb x (256 ^ w)) (fits ws xs) e).1)
 
 pub numbers_back : (fields : List ℕ) → fits row_widths fields ≡ true → fields_of row_widths (row_of row_widths fields) 0 ≡ fields
 numbers_back fields e =

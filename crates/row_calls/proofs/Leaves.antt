@@ -16,9 +16,8 @@ use Rattle.clock.specs.declared.Count.{Count}
 use Rattle.field.specs.Field.{bytes_of}
 use Rattle.field.specs.Row.{fields_of}
 use Rattle.connection.specs.declared.Connection.{Connection}
-use Rattle.connection.proofs.Ranges.{or_off}
-use Rattle.connection_row.specs.declared.RowRead.{RowRead}
-use Rattle.connection_row.specs.declared.RowRead.TheVariants.{Is, Refused}
+use Rattle.std.proofs.lemmas.Bool.{or_parts}
+use Rattle.std.specs.Prelude.{Option, Some, None}
 use Rattle.connection_row.specs.Row.{row_widths, row_size, connection_from, stands_for, row_bytes}
 use Rattle.connection_row.specs.Stored.{row_refusal, row_read, Wrote, wrote, row_written}
 use Rattle.connection_row.proofs.Accepts.{accepted_size, refused_with_109}
@@ -32,56 +31,38 @@ use Rattle.row_calls.specs.RowCalls.{refused_rows, rows_read, StoredIn, stored, 
 use Rattle.row_calls.specs.Numbers.{field_count, fits, fields_read, fields_written}
 use Rattle.row_calls.proofs.Small.{Small, answer_small}
 
--- ---- reading both rows
-
-pub another_answer_row : (row : List ℕ) (n : ℕ) → (n ≡ answer_size → ⊥) → Refused ≡ rows_read row n
-unfolding rows_read refused_rows
-another_answer_row row n e = rw (ne_eqb n answer_size e) (go (not (eqb (row_refusal row) 0)))
-  where
-    go : (b : Bool) → Refused ≡ (when b || true answer Refused else Is (stands_for row))
-    go true = refl
-    go false = refl
-
-pub the_row_decides : (row : List ℕ) (n : ℕ) → n ≡ answer_size → row_read row ≡ rows_read row n
-unfolding rows_read refused_rows row_read
-the_row_decides row n e = rw (eq-eqb n answer_size e) (go (eqb (row_refusal row) 0))
-  where
-    go : (b : Bool) → (when b answer Is (stands_for row) else Refused) ≡ (when not b || false answer Refused else Is (stands_for row))
-    go true = refl
-    go false = refl
-
 -- ---- what was read
 
 module _ (row : List ℕ) (n : ℕ) where
-  abbrev read_by : Bool → RowRead
-  read_by b = when b answer Refused else Is (stands_for row)
+  abbrev read_by : Bool → Option Connection
+  read_by b = when b answer None else Some (stands_for row)
 
-  are_refused : (r : RowRead) → r ≡ rows_read row n → r ≡ Refused → refused_rows row n ≡ true
+  are_refused : (r : Option Connection) → r ≡ rows_read row n → r ≡ None → refused_rows row n ≡ true
   unfolding rows_read
   are_refused r e f = go (refused_rows row n) (sym e ∙ f)
     where
-      go : (b : Bool) → read_by b ≡ Refused → b ≡ true
+      go : (b : Bool) → read_by b ≡ None → b ≡ true
       go true q = refl
       go false q = let z : ◌≡◌ {A = ℕ} 0 1 = cc in let q : ⊥ = omega arith in absurd q
 
-  are_read : (r : RowRead) (c : Connection) → r ≡ rows_read row n → r ≡ Is c → (refused_rows row n ≡ false) × (stands_for row ≡ c)
+  are_read : (r : Option Connection) (c : Connection) → r ≡ rows_read row n → r ≡ Some c → (refused_rows row n ≡ false) × (stands_for row ≡ c)
   unfolding rows_read
   are_read r c e f = go (refused_rows row n) (sym e ∙ f)
     where
-      go : (b : Bool) → read_by b ≡ Is c → (b ≡ false) × (stands_for row ≡ c)
+      go : (b : Bool) → read_by b ≡ Some c → (b ≡ false) × (stands_for row ≡ c)
       go true q = let z : ◌≡◌ {A = ℕ} 0 1 = cc in let q : ⊥ = omega arith in absurd q
       go false q = (refl, cc)
 
   pub accepted_row : refused_rows row n ≡ false → row_refusal row ≡ 0
   unfolding refused_rows
   accepted_row e =
-      eqb-true (row_refusal row) 0 (not-false (eqb (row_refusal row) 0) (or_off (not (eqb (row_refusal row) 0)) (not (eqb n answer_size)) e).0)
+      eqb-true (row_refusal row) 0 (not-false (eqb (row_refusal row) 0) (or_parts (not (eqb (row_refusal row) 0)) (not (eqb n answer_size)) e).0)
 
   pub accepted_answer_row : refused_rows row n ≡ false → n ≡ answer_size
   unfolding refused_rows
-  accepted_answer_row e = eqb-true n answer_size (not-false (eqb n answer_size) (or_off (not (eqb (row_refusal row) 0)) (not (eqb n answer_size)) e).1)
+  accepted_answer_row e = eqb-true n answer_size (not-false (eqb n answer_size) (or_parts (not (eqb (row_refusal row) 0)) (not (eqb n answer_size)) e).1)
 
-  pub sized : (r : RowRead) (c : Connection) → r ≡ rows_read row n → r ≡ Is c → (length row ≡ row_size) × (n ≡ answer_size)
+  pub sized : (r : Option Connection) (c : Connection) → r ≡ rows_read row n → r ≡ Some c → (length row ≡ row_size) × (n ≡ answer_size)
   sized r c e f =
       let x : refused_rows row n ≡ false = (are_read r c e f).0 in
       (accepted_size row (accepted_row x), accepted_answer_row x)
@@ -120,12 +101,12 @@ module _ (row answer_row : List ℕ) (called : Called) where
 -- ---- the whole call
 
 module _ (call : Call) (row : List ℕ) (now : Count) (lent out answer_row : List ℕ) where
-  pub refused_leaves : (r : RowRead) → r ≡ rows_read row (length answer_row) → r ≡ Refused
+  pub refused_leaves : (r : Option Connection) → r ≡ rows_read row (length answer_row) → r ≡ None
       → leaves_in (stored 109 row answer_row) out ≡ made_in call row now lent out answer_row
   unfolding made_in
   refused_leaves r e f = rw (are_refused row (length answer_row) r e f) refl
 
-  pub stored_leaves : (r : RowRead) (c : Connection) → r ≡ rows_read row (length answer_row) → r ≡ Is c
+  pub stored_leaves : (r : Option Connection) (c : Connection) → r ≡ rows_read row (length answer_row) → r ≡ Some c
       → (called : Called) (after : List ℕ) → leaves called after ≡ made call c now lent out
       → (left : StoredIn) → left ≡ stored_in row answer_row called → leaves_in left after ≡ made_in call row now lent out answer_row
   unfolding made_in
@@ -143,19 +124,6 @@ small_answer call c now lent out called after m = subst (λ (l : Leaves). Small 
 -- ---- a row's fields as numbers
 
 module _ (row fields : List ℕ) where
-  pub fields_109 : eqb (row_refusal row) 0 ≡ false → wrote 109 fields ≡ fields_read row fields
-  unfolding fields_read
-  fields_109 e = rw (e, refused_with_109 row e) refl
-
-  module _ (accepted : eqb (row_refusal row) 0 ≡ true) where
-    pub fields_108 : length fields < field_count → wrote 108 fields ≡ fields_read row fields
-    unfolding fields_read
-    fields_108 l = rw (accepted, lt-ltb (length fields) field_count l) refl
-
-    pub fields_0 : (left : List ℕ) → field_count ≤ length fields → left ≡ sets fields 0 (fields_of row_widths row 0) → wrote 0 left ≡ fields_read row fields
-    unfolding fields_read
-    fields_0 left l e = rw (accepted, le-ltb (length fields) field_count l, e) refl
-
   pub not_a_row : fits row_widths fields ≡ false → wrote 109 row ≡ fields_written fields row
   unfolding fields_written
   not_a_row e = rw e refl

@@ -1,6 +1,7 @@
 -- What a call writes and delivers is no longer than a message, so that it fits the two bytes that an answer row has for it.
 -- Assumes nothing.
 use Prim.Native.Nat.{ℕ, ◌+◌, ◌^◌, ◌<◌, ◌≤◌}
+use Rattle.std.proofs.lemmas.Bool.{and_parts}
 use mathlib.Core.Path.{◌≡◌}
 use mathlib.Core.Bool.{true, not}
 use mathlib.Core.List.{List}
@@ -12,15 +13,15 @@ use Rattle.message.specs.Table.{application, most_message, table_of, lists, tota
 use Rattle.message.specs.Read.{message_header_of, parsed_of}
 use Rattle.message.specs.declared.Header.{Header}
 use Rattle.message.specs.declared.Tail.{Tail}
-use Rattle.message.specs.declared.Parsed.{Parsed}
-use Rattle.message.proofs.Rows.{every_row, at_most, and_left}
+use Rattle.std.proofs.Common.{Option, Some, None}
+use Rattle.message.specs.declared.Message.{Message}
+use Rattle.message.specs.Layout.{whole}
+use Rattle.message.proofs.Rows.{every_row, at_most}
 use Rattle.message.proofs.Accepted.{accepted, accepted_data}
 use Rattle.message_writing.specs.Writing.{allowed_of, writes}
 use Rattle.message_writing.proofs.Steps.{allowed_parts, size_is_total}
 use Rattle.connection.specs.declared.Connection.{Connection}
 use Rattle.connection.specs.Connection.{clocked, heard}
-use Rattle.what_follows.specs.declared.Reply.{Reply}
-use Rattle.what_follows.specs.declared.Reply.TheVariants.{Nothing, Send}
 use Rattle.what_follows.specs.declared.Outcome.{Outcome}
 use Rattle.what_follows.specs.Follows.{start_taken, answ1_taken, answ2_taken, est_taken, end_taken, data_taken, message_taken, refusing, raised}
 use Rattle.calls.specs.declared.Call.{Call}
@@ -53,23 +54,23 @@ most_row =
 listed_small : (type n : ℕ) → lists (table_of type) n ≡ true → n ≤ most_message
 listed_small type n e = let m : n ≤ (table_of type).most = at_most (table_of type) n e in omega (arith, most_row type)
 
-written_small : (reply : Reply) (room : ℕ) (lent : List ℕ) → writable reply room (length lent) ≡ true → length (reply_bytes reply lent) ≤ most_message
+written_small : (reply : Option Message) (room : ℕ) (lent : List ℕ) → writable reply room (length lent) ≡ true → length (reply_bytes reply lent) ≤ most_message
 unfolding writes
-written_small Nothing room lent e = omega arith
-written_small (Send h t) room lent e =
-    let a : allowed_of h t (length lent) ≡ true = and_left (allowed_of h t (length lent)) (leb (total_of (table_of h.kind) (length lent)) room) e in
-    omega (arith, size_is_total h t lent a, listed_small h.kind _ (allowed_parts h t (length lent) a).total_listed)
+written_small None room lent e = omega arith
+written_small (Some m) room lent e =
+    let a : allowed_of m.header m.tail (length lent) ≡ true = (and_parts (allowed_of m.header m.tail (length lent)) (leb (total_of (table_of m.header.kind) (length lent)) room) e).0 in
+    omega (arith, size_is_total m.header m.tail lent a, listed_small m.header.kind _ (allowed_parts m.header m.tail (length lent) a).total_listed)
 
 -- so many bytes of a message
 abbrev Few : Outcome → Type 0
 Few o = o.delivered ≤ most_message
 
-data_small : (message : List ℕ) (h : Header) (t : Tail) → parsed_of message ≡ Parsed.Whole h t → h.kind ≡ application → t.«data» ≤ most_message
+data_small : (message : List ℕ) (h : Header) (t : Tail) → parsed_of message ≡ Some (whole h t) → h.kind ≡ application → t.«data» ≤ most_message
 data_small message h t w k =
     omega (arith, accepted_data message h t w k, listed_small (message_header_of message).kind (length message) (accepted message h t w).total_listed)
 
 module _ (c : Connection) (now : Count) (message : List ℕ) where
-  taken_few : (h : Header) (t : Tail) → parsed_of message ≡ Parsed.Whole h t → Expects c.phase h.kind → Few (message_taken c now h t)
+  taken_few : (h : Header) (t : Tail) → parsed_of message ≡ Some (whole h t) → Expects c.phase h.kind → Few (message_taken c now h t)
   unfolding message_taken start_taken answ1_taken answ2_taken est_taken end_taken data_taken
   taken_few h t w (Expects.x1 p k) = rw k (omega arith)
   taken_few h t w (Expects.x2 p k) = rw k (omega arith)

@@ -1,9 +1,8 @@
 -- The five calls over a connection that the host keeps as a row of bytes.
-use Rattle.std.specs.Prelude.{ℕ, Bool, not, ◌||◌, List, eqb, length}
+use Rattle.std.specs.Prelude.{ℕ, Bool, not, ◌||◌, List, eqb, length, Option, Some, None}
 use Rattle.rules.specs.Rows.{when◌answer◌else◌}
 use Rattle.clock.specs.declared.Count.{Count}
-use Rattle.connection_row.specs.declared.RowRead.{RowRead}
-use Rattle.connection_row.specs.declared.RowRead.TheVariants.{Is, Refused}
+use Rattle.connection.specs.declared.Connection.{Connection}
 use Rattle.connection_row.specs.Row.{stands_for, row_bytes}
 use Rattle.connection_row.specs.Stored.{row_refusal}
 use Rattle.calls.specs.declared.Call.{Call}
@@ -18,10 +17,10 @@ unfoldable pub refused_rows : List ℕ → ℕ → Bool
 refused_rows row answer_length = not (eqb (row_refusal row) 0) || not (eqb answer_length answer_size)
 
 -- CALL-109: the record that the row stands for, where neither is
-unfoldable pub rows_read : List ℕ → ℕ → RowRead
+unfoldable pub rows_read : List ℕ → ℕ → Option Connection
 rows_read row answer_length =
-    when refused_rows row answer_length answer Refused else
-    Is (stands_for row)
+    when refused_rows row answer_length answer None else
+    Some (stands_for row)
 
 -- ROW-6, ROW-7: what is stored of what a call on the record said and left; CALL-KEPT: with a caller's fault both rows stay
 unfoldable pub stored_in : List ℕ → List ℕ → Called → StoredIn

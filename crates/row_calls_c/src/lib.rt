@@ -1,4 +1,5 @@
 // What C calls: each function of `row_calls`, exported under its name and with its clause; a slice is a pointer and then a length.
+// Stays: seven twins of `row_calls`, since a crate is a library or what C links, and the exported names may not change.
 #![tactic(auto)]
 
 ghost use Rattle.std.specs.Prelude.{◌≡◌, ◌∷◌, []};

@@ -20,7 +20,8 @@ use Rattle.message.specs.declared.Header.{Header}
 use Rattle.message.specs.declared.Tail.{Tail}
 use Rattle.connection.specs.declared.Connection.{Connection}
 use Rattle.connection.specs.Connection.{closed, opened, out_of_range, all_zero, clocked, heard}
-use Rattle.what_follows.specs.declared.Reply.{Reply}
+use Rattle.std.proofs.Common.{Option}
+use Rattle.message.specs.declared.Message.{Message}
 use Rattle.what_follows.specs.declared.Outcome.{Outcome}
 use Rattle.what_follows.specs.Follows.{start_taken, answ1_taken, answ2_taken, est_taken, end_taken, data_taken, message_taken, refusing, raised}
 use Rattle.calls.specs.declared.Answer.{Answer}
@@ -292,7 +293,7 @@ module _ (call : Call) (row : List ℕ) (now : Count) (lent out answer_row : Lis
         let e : callers_fault comes.number ≡ true = subst (λ (k : ℕ). callers_fault k ≡ true) same_number f in
         record {
           same_row = ap (λ (s : StoredIn). s.row) (kept_rows e);
-          same_out = ap (λ (l : LeftIn). l.out) (taken good) ∙ ap (λ (r : Reply). sets out 0 (reply_bytes r lent)) (unchanged e).nothing_written;
+          same_out = ap (λ (l : LeftIn). l.out) (taken good) ∙ ap (λ (r : Option Message). sets out 0 (reply_bytes r lent)) (unchanged e).nothing_written;
           same_answer = ap (λ (s : StoredIn). s.answer) (kept_rows e);
         }
 

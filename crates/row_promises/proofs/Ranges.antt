@@ -18,11 +18,13 @@ use Rattle.message.specs.Table.{offset_start, offset_answ1, offset_answ2, offset
 use Rattle.message.specs.Read.{parsed_of}
 use Rattle.message.specs.declared.Header.{Header}
 use Rattle.message.specs.declared.Tail.{Tail}
-use Rattle.message.specs.declared.Parsed.{Parsed}
+use Rattle.std.proofs.Common.{Some}
+use Rattle.message.specs.Layout.{whole}
 use Rattle.message.proofs.Accepted.{accepted}
 use Rattle.connection.specs.declared.Connection.{Connection}
 use Rattle.connection.specs.Connection.{closed, out_of_range, all_zero, clocked, counted, heard, heard_of, sent, one_more}
-use Rattle.connection.proofs.Ranges.{or_off, in_range}
+use Rattle.connection.proofs.Ranges.{in_range}
+use Rattle.std.proofs.lemmas.Bool.{or_parts}
 use Rattle.what_follows.specs.declared.Outcome.{Outcome}
 use Rattle.what_follows.specs.Follows.{start_taken, answ1_taken, answ2_taken, est_taken, end_taken, data_taken, message_taken, refusing, raised}
 use Rattle.calls.specs.declared.Given.{Given}
@@ -113,7 +115,7 @@ module _ (c : Connection) (now : Count) (r : Ranges c) (small : now.0 < 2 ^ 32) 
         clock = small;
       }
 
-  module _ (message : List ℕ) (b : Bytes message) (h : Header) (t : Tail) (w : parsed_of message ≡ Parsed.Whole h t) where
+  module _ (message : List ℕ) (b : Bytes message) (h : Header) (t : Tail) (w : parsed_of message ≡ Some (whole h t)) where
     heard_peer : PeerRanges (heard_of h now)
     heard_peer =
         subst (λ (x : Header). PeerRanges (heard_of x now)) (accepted message h t w).header
@@ -217,7 +219,7 @@ module _ (c : Connection) (now : Count) (r : Ranges c) (small : now.0 < 2 ^ 32) 
           let a = row_off (bad c) 101 _ (lit< tt) e in
           let b = row_off (not (eqb c.phase closed)) 103 _ (lit< tt) a.1 in
           let d = row_off (ltb responder g.role || out_of_range g.settings) 104 _ (lit< tt) b.1 in
-          let i = in_range g.settings (or_off (ltb responder g.role) (out_of_range g.settings) d.0).1 in
+          let i = in_range g.settings (or_parts (ltb responder g.role) (out_of_range g.settings) d.0).1 in
           record { n = omega (arith, i.most_n_lem); t_max = omega (arith, i.most_t_max); e = omega (arith, i.most_e, i.most_t_max); t_start = omega (arith, i.t_start); t_off = omega (arith, i.most_t_off); limit = omega (arith, i.most_limit_lem) }
 
 -- any call

@@ -1,6 +1,7 @@
 -- Rows there and back: what is written is read, what is read is written, and exactly the rows of valid connections are accepted.
 -- Assumes nothing.
 use Prim.Native.Nat.{ℕ, zero, suc, ◌+◌, ◌^◌, ◌≤◌}
+use Rattle.std.proofs.lemmas.Bool.{and_parts, or_parts}
 use mathlib.Core.Path.{◌≡◌, refl, sym, ap, ap₂, subst, ◌∙◌}
 use mathlib.Core.Bool.{Bool, true, false, not, ◌&&◌, ◌||◌}
 use mathlib.Core.List.{List, [], ◌∷◌, append-nil}
@@ -19,11 +20,9 @@ use Rattle.clock.proofs.RoundTrip.{bits_there, bits_back}
 use Rattle.field.specs.Field.{field_of, bytes_of}
 use Rattle.field.specs.Row.{fields_of, row_of, FitsRow, Bytes}
 use Rattle.field.proofs.Row.{bytes_row, fields_fit, fields_of_row, row_of_fields}
-use Rattle.message.proofs.Rows.{and_left, and_right}
 use Rattle.connection.specs.declared.Connection.{Connection}
 use Rattle.connection.specs.Connection.{closed, initiator_waits_for2, opened, out_of_range, unsound, ◌outside◌to◌, of_parts, all_zero}
-use Rattle.connection.proofs.Ranges.{or_off}
-use Rattle.connection_row.specs.declared.RowRead.{RowRead}
+use Rattle.std.specs.Prelude.{Some}
 use Rattle.connection_row.specs.Row.{row_widths, row_size, connection_from, stands_for, numbers_of, row_bytes}
 use Rattle.connection_row.specs.Stored.{zeros, row_refusal, row_read, Wrote, wrote, row_stored}
 use Rattle.connection_row.proofs.Accepts.{read_accepted}
@@ -128,8 +127,8 @@ ranges_of row b =
 zero_byte : (s : List ℕ) (i : ℕ) → zeros s ≡ true → get_or s i 0 ≡ 0
 unfolding zeros
 zero_byte [] i z = refl
-zero_byte (b ∷ s) zero z = eqb-true b 0 (and_left (eqb b 0) (zeros s) z)
-zero_byte (b ∷ s) (suc i) z = zero_byte s i (and_right (eqb b 0) (zeros s) z)
+zero_byte (b ∷ s) zero z = eqb-true b 0 (and_parts (eqb b 0) (zeros s) z).0
+zero_byte (b ∷ s) (suc i) z = zero_byte s i (and_parts (eqb b 0) (zeros s) z).1
 
 zero_field : (s : List ℕ) (at w : ℕ) → zeros s ≡ true → field_of s at w ≡ 0
 unfolding field_of
@@ -184,9 +183,9 @@ zero_ranges = record {
 pub not_closed : (c : Connection) → unsound c ≡ false → eqb c.phase closed ≡ false
 unfolding unsound ◌outside◌to◌
 not_closed c u =
-    let a = or_off (out_of_range c.settings || c.phase outside initiator_waits_for2 to opened) (leb c.settings.limit c.errors) u in
-    let b = or_off (out_of_range c.settings) (c.phase outside initiator_waits_for2 to opened) a.0 in
-    let d = or_off (ltb c.phase initiator_waits_for2) (ltb opened c.phase) b.1 in
+    let a = or_parts (out_of_range c.settings || c.phase outside initiator_waits_for2 to opened) (leb c.settings.limit c.errors) u in
+    let b = or_parts (out_of_range c.settings) (c.phase outside initiator_waits_for2 to opened) a.0 in
+    let d = or_parts (ltb c.phase initiator_waits_for2) (ltb opened c.phase) b.1 in
     let l : 1 ≤ c.phase = ltb-false c.phase initiator_waits_for2 d.0 in
     ne_eqb c.phase closed (λ e. omega arith)
 
@@ -234,11 +233,11 @@ valid_accepted c r (inr u) = sound_accepted c r u
 
 -- ---- the promises
 
-is_read : (row : List ℕ) → row_refusal row ≡ 0 → row_read row ≡ RowRead.Is (stands_for row)
+is_read : (row : List ℕ) → row_refusal row ≡ 0 → row_read row ≡ Some (stands_for row)
 unfolding row_read
 is_read row e = rw e refl
 
-read_is : (row : List ℕ) (c : Connection) → row_read row ≡ RowRead.Is c → (row_refusal row ≡ 0) × (stands_for row ≡ c)
+read_is : (row : List ℕ) (c : Connection) → row_read row ≡ Some c → (row_refusal row ≡ 0) × (stands_for row ≡ c)
 read_is row c e = let x = read_accepted row (row_read row) c refl e in (eqb-true (row_refusal row) 0 x.0, x.1)
 
 -- a row that was stored
@@ -269,7 +268,7 @@ written_reads_back c out r e =
     ap (λ (l : List ℕ). row_read (take row_size l)) x.2
     ∙ ap row_read (first_of row_size (row_bytes c) out (row_size_lem c) x.1)
     ∙ is_read (row_bytes c) x.0
-    ∙ ap RowRead.Is (stands_for_lem c r)
+    ∙ ap Some (stands_for_lem c r)
 
 pub read_writes_back : ReadWritesBack
 read_writes_back row c b e =

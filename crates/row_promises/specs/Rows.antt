@@ -1,5 +1,5 @@
 -- ROW-11: what is written and read back, of rows: each row that is accepted stands for one record, and each record has one row.
-use Rattle.std.specs.Prelude.{ℕ, ◌^◌, ◌<◌, ◌≤◌, ◌≡◌, true, false, List, ◌⊎◌, length, take}
+use Rattle.std.specs.Prelude.{ℕ, ◌^◌, ◌<◌, ◌≤◌, ◌≡◌, true, false, List, ◌⊎◌, length, take, Some}
 use Rattle.std.proofs.lemmas.List.Edits.{sets}
 use Rattle.std.specs.Int.Signed.{mag}
 use Rattle.field.specs.Row.{fields_of, row_of, Bytes}
@@ -9,7 +9,6 @@ use Rattle.connection.specs.declared.Peer.{Peer}
 use Rattle.connection.specs.declared.Offsets.{Offsets}
 use Rattle.connection.specs.declared.Connection.{Connection}
 use Rattle.connection.specs.Connection.{unsound, all_zero}
-use Rattle.connection_row.specs.declared.RowRead.{RowRead}
 use Rattle.connection_row.specs.Row.{row_widths, row_size, connection_from, stands_for, numbers_of, row_bytes}
 use Rattle.connection_row.specs.Stored.{row_refusal, row_read, wrote, row_stored, row_written}
 use Rattle.row_calls.specs.Numbers.{field_count, fits, fields_read, fields_written}
@@ -55,11 +54,11 @@ Storable c = (c ≡ all_zero) ⊎ (unsound c ≡ false)
 abbrev pub WrittenReadsBack : Type 0
 WrittenReadsBack =
     (c : Connection) (out : List ℕ) → Ranges c → (row_written c out).number ≡ 0
-    → row_read (take row_size (row_written c out).lent) ≡ RowRead.Is c
+    → row_read (take row_size (row_written c out).lent) ≡ Some c
 
 -- ROW-11: what reading accepts writes back as the same bytes
 abbrev pub ReadWritesBack : Type 0
-ReadWritesBack = (row : List ℕ) (c : Connection) → Bytes row → row_read row ≡ RowRead.Is c → row_bytes c ≡ row
+ReadWritesBack = (row : List ℕ) (c : Connection) → Bytes row → row_read row ≡ Some c → row_bytes c ≡ row
 
 -- ROW-11: a row of a valid connection
 pub record RowOfValid (row : List ℕ) : Type 0 where

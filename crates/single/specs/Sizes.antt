@@ -9,7 +9,3 @@ most_input = 262144
 -- the text of an input has at most so many bytes, of whichever kind it is
 abbrev pub most_text : ℕ
 most_text = 300000
-
--- the bytes of a buffer: two inputs, and the text of one
-abbrev pub buffer_size : ℕ
-buffer_size = 524288

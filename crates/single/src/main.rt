@@ -2,13 +2,12 @@
 // It is there to be compared with the independent program, which makes such files.
 #![tactic(auto)]
 
-ghost use Rattle.std.specs.Prelude.{◌≡◌, ◌+◌, ◌≤◌, length};
-ghost use Rattle.single.specs.Sizes.{most_input, most_text, buffer_size};
-ghost use Rattle.window.specs.Window.{Within};
+ghost use Rattle.std.specs.Prelude.{◌≡◌, ◌+◌, ◌≤◌, length, IfSome};
+ghost use Rattle.single.specs.Sizes.{most_input, most_text};
 
+use arrayvec::ArrayVec;
 use std::io::{Read, Write};
-use text::{Chosen, Done};
-use window::Window;
+use window::Input;
 
 // An input fits a window that has so many bytes.
 const MOST_INPUT: usize = 262144;
@@ -28,37 +27,35 @@ enum Kind {
     Call,
     Table,
     Write,
-    None,
 }
 
-// The window after an input, and whether to go on.
-#[derive(Clone, Copy)]
-struct Turned {
-    window: Window,
-    goes_on: bool,
+// An open file, what its inputs are, and its name.
+#[derive(Drop)]
+struct Inputs<'a, R> {
+    kind: Kind,
+    file: R,
+    name: &'a [u8],
 }
 
 // What an input is, by the word that asks for it.
-fn kind_of(word: &[u8]) -> Kind {
-    match text::chosen_of(word, b"steps", b"packets") {
-        Chosen::First => Kind::Step,
-        Chosen::Second => Kind::Packet,
-        Chosen::Neither => match text::chosen_of(word, b"messages", b"calls") {
-            Chosen::First => Kind::Message,
-            Chosen::Second => Kind::Call,
-            Chosen::Neither => match text::chosen_of(word, b"tables", b"writes") {
-                Chosen::First => Kind::Table,
-                Chosen::Second => Kind::Write,
-                Chosen::Neither => Kind::None,
-            },
-        },
-    }
+fn kind_of(word: &[u8]) -> Option<Kind> {
+    text::chosen_of(
+        word,
+        &[
+            (b"steps".as_slice(), Kind::Step),
+            (b"packets".as_slice(), Kind::Packet),
+            (b"messages".as_slice(), Kind::Message),
+            (b"calls".as_slice(), Kind::Call),
+            (b"tables".as_slice(), Kind::Table),
+            (b"writes".as_slice(), Kind::Write),
+        ],
+    )
 }
 
-// The input at the front of s, if it is there whole, and its lines.
-fn input_at(kind: Kind, s: &[u8], out: &mut [u8]) -> Done
-    requires { most_text ≤ length out.old }
-    ensures { (result.next ≤ most_text) × (result.used ≤ length s.now) }
+// The lines of the input at the front of s, if it is there whole, and how many bytes it takes.
+fn input_at<const N: usize>(kind: Kind, s: &[u8], out: &mut ArrayVec<u8, N>) -> Option<usize>
+    requires { length out.old.items + most_text ≤ N }
+    ensures { IfSome result (λ used. used ≤ length s.now) }
 {
     match kind {
         Kind::Step => link_lines::step_at(s, out),
@@ -67,7 +64,6 @@ fn input_at(kind: Kind, s: &[u8], out: &mut [u8]) -> Done
         Kind::Call => call_lines::call_at(s, out),
         Kind::Table => call_lines::table_at(s, out),
         Kind::Write => message_lines::write_at(s, out),
-        Kind::None => Done::not_whole(),
     }
 }
 
@@ -81,101 +77,70 @@ fn say_cut<E: Write>(err: &mut E, left: usize) {
     }
 }
 
-// The input at the front of a window, its lines, and the window with the input used up.
-fn taken<W: Write, E: Write>(
+// The lines of the input that stands first, which is used up; none where there is no whole one, or its lines can't be written.
+fn taken<W: Write, E: Write, const N: usize, const B: usize>(
     kind: Kind,
     to: &mut W,
     err: &mut E,
-    buffer: &[u8],
-    out: &mut [u8],
-    window: Window,
-) -> Turned
-    requires { Within window (length buffer.now) × (most_text ≤ length out.old) }
-    ensures { Within result.window (length buffer.now) }
+    input: &mut Input<B>,
+    out: &mut ArrayVec<u8, N>,
+) -> Option<()>
+    requires { most_text ≤ N }
 {
-    let from = window.from;
-    let end = window.to;
-    let done = input_at(kind, &buffer[from..end], out);
-    if done.used == 0 {
-        say_cut(err, end - from);
-        return Turned {
-            window,
-            goes_on: false,
-        };
-    }
-    Turned {
-        window: window.used(done.used),
-        goes_on: text::written(to, err, out, done.next),
-    }
+    out.clear();
+    let s = input.unread();
+    let Some(used) = input_at(kind, s, out) else {
+        say_cut(err, s.len());
+        return None;
+    };
+    text::written(to, err, out.as_slice()).ok()?;
+    input.use_up(used);
+    Some(())
 }
 
-// The next input of the file and its lines. It does not go on where there is none, or something could not be read or written.
-fn turn<R: Read, W: Write, E: Write>(
-    kind: Kind,
-    file: &mut R,
+// The next input of the file and its lines. None where there is no next one, or something could not be read or written.
+fn turn<R: Read, W: Write, E: Write, const N: usize, const B: usize>(
+    inputs: &mut Inputs<R>,
     to: &mut W,
     err: &mut E,
-    name: &[u8],
-    buffer: &mut [u8],
-    out: &mut [u8],
-    window: Window,
-) -> Turned
-    requires { Within window (length buffer.old) × (most_input ≤ length buffer.old) × (most_text ≤ length out.old) }
-    ensures { Within result.window (length buffer.old) }
+    input: &mut Input<B>,
+    out: &mut ArrayVec<u8, N>,
+) -> Option<()>
+    requires { (most_input ≤ B) × (most_text ≤ N) }
 {
-    let topped = window::topped_up(file, err, name, buffer, window, MOST_INPUT);
-    let lent = topped.window;
-    if topped.failed {
-        return Turned {
-            window: lent,
-            goes_on: false,
-        };
-    }
-    taken(kind, to, err, buffer, out, lent)
+    let last = input.top_up(&mut inputs.file, err, inputs.name, MOST_INPUT);
+    last.got.ok()?;
+    taken(inputs.kind, to, err, input, out)
 }
 
-// The inputs of a file, one after the other. A proved loop has to end, so it counts its turns down, from a number that no run uses up.
-fn all<R: Read, W: Write, E: Write>(
-    kind: Kind,
-    file: &mut R,
+// The inputs of a file, one after the other. A proved loop has to end, so it takes no more turns than a number that no run uses up.
+fn all<R: Read, W: Write, E: Write, const N: usize, const B: usize>(
+    inputs: &mut Inputs<R>,
     to: &mut W,
     err: &mut E,
-    name: &[u8],
-    buffer: &mut [u8],
-    out: &mut [u8],
+    input: &mut Input<B>,
+    out: &mut ArrayVec<u8, N>,
 )
-    requires { (most_input ≤ length buffer.old) × (most_text ≤ length out.old) }
+    requires { (most_input ≤ B) × (most_text ≤ N) }
 {
-    let mut window = Window::empty();
-    let mut turns = u64::MAX;
-    while turns > 0 {
-        let turned = turn(kind, file, to, err, name, buffer, out, window);
-        if !turned.goes_on {
+    for _ in 0..u64::MAX {
+        if turn(inputs, to, err, input, out).is_none() {
             return;
         }
-        window = turned.window;
-        turns -= 1;
     }
-}
-
-// A buffer. The `ensures` gives the length, which lending it asks for.
-fn empty_buffer() -> [u8; BUFFER]
-    ensures { buffer_size ≡ length result }
-{
-    [0; BUFFER]
 }
 
 // The inputs of an open file, with buffers of their own.
-fn run<R: Read>(rt: &HostRuntime, kind: Kind, file: &mut R, name: &[u8]) {
-    let mut buffer = empty_buffer();
-    let mut out = empty_buffer();
+fn run<R: Read>(rt: &HostRuntime, inputs: &mut Inputs<R>) {
+    let mut input = Input::<BUFFER>::empty();
+    let mut out = ArrayVec::<u8, BUFFER>::new();
     let mut to = rt.stdout();
     let mut err = rt.stderr();
-    all(kind, file, &mut to, &mut err, name, &mut buffer, &mut out);
+    all(inputs, &mut to, &mut err, &mut input, &mut out);
 }
 
 // What the first argument asks for.
-fn asked(rt: &HostRuntime) -> Kind {
+fn asked(rt: &HostRuntime) -> Option<Kind> {
     let mut room = [0u8; MOST_WORD];
     kind_of(text::arg(rt, 1, &mut room).unwrap_or(b""))
 }
@@ -185,9 +150,15 @@ fn run_named(rt: &HostRuntime, kind: Kind) {
     let mut room = [0u8; MOST_WORD];
     let name = text::arg(rt, 2, &mut room);
     let mut err = rt.stderr();
-    if let Some(mut file) = window::open_file(rt, &mut err, name, b"FILE") {
-        run(rt, kind, &mut file, name.unwrap_or(b""));
-    }
+    let Some(file) = window::open_file(rt, &mut err, name, b"FILE") else {
+        return;
+    };
+    let mut inputs = Inputs {
+        kind,
+        file,
+        name: name.unwrap_or(b""),
+    };
+    run(rt, &mut inputs);
 }
 
 // Says what the arguments are.
@@ -200,14 +171,8 @@ fn usage(rt: &HostRuntime) {
 }
 
 fn main(rt: HostRuntime) {
-    if text::arg_count(&rt) != 3 {
-        usage(&rt);
-        return;
+    match asked(&rt) {
+        Some(kind) if text::arg_count(&rt) == 3 => run_named(&rt, kind),
+        _ => usage(&rt),
     }
-    let kind = asked(&rt);
-    if let Kind::None = kind {
-        usage(&rt);
-        return;
-    }
-    run_named(&rt, kind);
 }

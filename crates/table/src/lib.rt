@@ -7,27 +7,23 @@ ghost use Rattle.calls.specs.declared.Call.{Call};
 ghost use Rattle.calls.specs.Calls.{given};
 ghost use Rattle.table.specs.Table.{bad_slot, leaves_at, made_at};
 
-use calls::{Answer, Call};
+use calls::{Answer, Call, Given};
 use clock::Count;
-use connection::{Connection, Settings};
+use connection::{Connection, Own, Settings};
 
 // TABLE-1: as many records a table has at most.
 pub const MOST_RECORDS: usize = 64;
 
 // CALL-101: a bad slot or table size.
+#[tactic(auto, unfolding(crate::specs::Table::bad_slot))]
 fn bad_slot(size: usize, slot: usize) -> bool
     ensures { result ≡ bad_slot size slot }
 {
-    if size == 0 {
-        return true;
-    }
-    if MOST_RECORDS < size {
-        return true;
-    }
-    size <= slot
+    size == 0 || MOST_RECORDS < size || size <= slot
 }
 
 // Any call.
+#[tactic(auto, unfolding(crate::specs::Table::bad_slot, crate::specs::Table::made_at))]
 pub fn make(
     table: &mut [Connection],
     slot: usize,
@@ -42,11 +38,12 @@ pub fn make(
     if bad_slot(table.len(), slot) {
         return calls::refusal(101);
     }
-    let c = table[slot];
-    let made = calls::make(c, call, now, lent, out);
+    let made = calls::make(table[slot], call, now, lent, out);
     table[slot] = made.next;
     made.answer
 }
+
+// Stays: five wrappers of `make`, alike but for their call: 01 asks for thin ones (FORM-9), and README names them.
 
 // CALL-BEGIN.
 pub fn begin(
@@ -62,13 +59,15 @@ pub fn begin(
     ensures { leaves_at result table.new out.new
         ≡ made_at table.old slot (Call.Begin (given role settings first period)) now [] out.old }
 {
-    if bad_slot(table.len(), slot) {
-        return calls::refusal(101);
-    }
-    let c = table[slot];
-    let made = calls::begin(c, role, settings, first, period, now, out);
-    table[slot] = made.next;
-    made.answer
+    let given = Given {
+        role,
+        settings,
+        own: Own {
+            number: first,
+            period,
+        },
+    };
+    make(table, slot, Call::Begin(given), now, b"", out)
 }
 
 // CALL-RECEIVE.
@@ -82,13 +81,7 @@ pub fn receive(
     ensures { leaves_at result table.new out.new
         ≡ made_at table.old slot Call.Receive now message.now out.old }
 {
-    if bad_slot(table.len(), slot) {
-        return calls::refusal(101);
-    }
-    let c = table[slot];
-    let made = calls::receive(c, now, message, out);
-    table[slot] = made.next;
-    made.answer
+    make(table, slot, Call::Receive, now, message, out)
 }
 
 // CALL-SEND.
@@ -102,39 +95,21 @@ pub fn send(
     ensures { leaves_at result table.new out.new
         ≡ made_at table.old slot Call.Send now «data».now out.old }
 {
-    if bad_slot(table.len(), slot) {
-        return calls::refusal(101);
-    }
-    let c = table[slot];
-    let made = calls::send(c, now, data, out);
-    table[slot] = made.next;
-    made.answer
+    make(table, slot, Call::Send, now, data, out)
 }
 
 // CALL-TICK: it is lent nothing.
 pub fn tick(table: &mut [Connection], slot: usize, now: Count) -> Answer
     ensures { leaves_at result table.new [] ≡ made_at table.old slot Call.Tick now [] [] }
 {
-    if bad_slot(table.len(), slot) {
-        return calls::refusal(101);
-    }
-    let c = table[slot];
-    let made = calls::tick(c, now);
-    table[slot] = made.next;
-    made.answer
+    make(table, slot, Call::Tick, now, b"", &mut [])
 }
 
 // CALL-CLOSE: it is lent nothing, and has no now.
 pub fn close(table: &mut [Connection], slot: usize) -> Answer
     ensures { leaves_at result table.new [] ≡ made_at table.old slot Call.Close no_count [] [] }
 {
-    if bad_slot(table.len(), slot) {
-        return calls::refusal(101);
-    }
-    let c = table[slot];
-    let made = calls::close(c);
-    table[slot] = made.next;
-    made.answer
+    make(table, slot, Call::Close, Count(0), b"", &mut [])
 }
 
 // A call's answer, and the table that it leaves.

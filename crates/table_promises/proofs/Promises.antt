@@ -6,6 +6,8 @@ use mathlib.Core.Bool.{Bool, true, false, ◌&&◌}
 use mathlib.Core.List.{List}
 use mathlib.Core.Logic.{inl}
 use Rattle.rules.specs.Rows.{when◌answer◌else◌}
+use Rattle.rules.proofs.Tests.{tests}
+use native.Mathlib.Omega.{arith}
 use borrow.Author.Tests.{eqb-true, eqb-false}
 use lib.Dec.{T, eqb}
 use lib.ListN.{length, set, get_or, length-set}
@@ -15,7 +17,8 @@ use Rattle.connection.specs.declared.Connection.{Connection}
 use Rattle.connection.specs.Connection.{opened, all_zero}
 use Rattle.peer_faults.specs.Faults.{reports_age}
 use Rattle.what_follows.specs.declared.Outcome.{Outcome}
-use Rattle.what_follows.specs.declared.Reply.{Reply}
+use Rattle.std.proofs.Common.{Option}
+use Rattle.message.specs.declared.Message.{Message}
 use Rattle.calls.specs.declared.Call.{Call}
 use Rattle.calls.specs.Calls.{rule_of, outcome_of, reply_bytes, refusal, made}
 use Rattle.promises.specs.Promises.{◌among◌, callers_fault, Unchanged, Valid, Stays, remembered_with, Remembers, tells_age, reported_by, GoesByAge}
@@ -24,7 +27,6 @@ use Rattle.promises.proofs.Remembered.{receive_remembers}
 use Rattle.promises.proofs.Reported.{none_with, call_reports, receive_goes_by_age}
 use Rattle.promises.proofs.Valid.{call_stays}
 use Rattle.table.specs.Table.{bad_slot, record_at, LeftAt, leaves_at, stored_at, made_at}
-use Rattle.table.proofs.Slot.{in_range}
 use Rattle.table_promises.specs.Promises.{ChangesNoOther, OnOthers, LeftAsItWas, Agree, SameThere, Untouched, AllValid, Promises}
 
 -- 101 is one of the numbers of every call
@@ -45,7 +47,8 @@ next_valid o s = go o.released refl
 
 -- a slot that is not refused is one of the table's
 inside : (n i : ℕ) → bad_slot n i ≡ false → i < n
-inside n i e = in_range n i e
+unfolding bad_slot
+inside n i e = grind (arith, tests)
 
 -- either the slot is refused or it is not
 either : {P : Type 0} (b : Bool) → (b ≡ true → P) → (b ≡ false → P) → P
@@ -112,8 +115,8 @@ module _ (table : List Connection) (slot : ℕ) (call : Call) (now : Count) (len
   taken_untouched u =
       record {
         same_table = ap (λ (c : Connection). set table slot c) u.same_record ∙ set-get_or table slot all_zero;
-        same_out = ap (λ (r : Reply). sets out 0 (reply_bytes r lent)) u.nothing_written;
-        nothing_written = ap (λ (r : Reply). length (reply_bytes r lent)) u.nothing_written;
+        same_out = ap (λ (r : Option Message). sets out 0 (reply_bytes r lent)) u.nothing_written;
+        nothing_written = ap (λ (r : Option Message). length (reply_bytes r lent)) u.nothing_written;
         nothing_delivered = u.nothing_delivered;
         not_released = u.not_released;
       }

@@ -1,13 +1,11 @@
--- Two words are the same exactly where their bytes are equal.
+-- Two words are the same exactly where `==` says so, and what a word stands for in a list of words.
 -- Assumes nothing.
-use Prim.Native.Nat.{ℕ}
-use mathlib.Core.Path.{◌≡◌, refl, sym, ap, subst}
-use mathlib.Core.Bool.{Bool, true, false, ◌&&◌, false≢true}
-use mathlib.Core.List.{List, [], ◌∷◌}
-use lib.Dec.{eqb}
-use lib.Pointwise.{pointwise}
+use Rattle.std.proofs.Common.{ℕ, suc, ◌+◌, ◌<◌, ◌≡◌, refl, sym, ap, ◌∙◌, Bool, true, false, ◌&&◌, subst, List, [], ◌∷◌, Some, Bor, arith, eqb, drop, length, get_or}
+use mathlib.Core.Bool.{false≢true}
 use borrow.Author.Tests.{eqb-true, eq-eqb}
-use Rattle.text.specs.Text.{same_word}
+use lib.Seq.{drop-cons}
+use lib.Pointwise.{pointwise}
+use Rattle.text.specs.Text.{same_word, chosen_of}
 
 both_true : (a b : Bool) → (a && b) ≡ true → (a ≡ true) × (b ≡ true)
 both_true true b e = (refl, e)
@@ -50,3 +48,20 @@ compared [] [] = refl
 compared [] (y ∷ ys) = refl
 compared (x ∷ xs) [] = refl
 compared (x ∷ xs) (y ∷ ys) = ap (λ (rest : Bool). eqb x y && rest) (compared xs ys)
+
+-- ---- the choice of a word
+
+module _ {T : Type 0} (word : List ℕ) (words : List (Bor (List ℕ) × T)) (i : ℕ) (entry : Bor (List ℕ) × T) (h : i < length words)
+    (is : entry ≡ get_or words i entry) where
+  first_is : drop i words ≡ entry ∷ drop (suc i) words
+  first_is = drop-cons words i entry h ∙ ap (λ (e : Bor (List ℕ) × T). e ∷ drop (suc i) words) (sym is)
+
+  pub chosen_here : same_word word entry.0.now ≡ true → chosen_of word (drop i words) ≡ Some entry.1
+  unfolding chosen_of
+  chosen_here e = ap (chosen_of word) first_is ∙ rw e
+
+  pub chosen_later : same_word word entry.0.now ≡ false → chosen_of word (drop i words) ≡ chosen_of word (drop (i + 1) words)
+  unfolding chosen_of
+  chosen_later e =
+      let more : suc i ≡ i + 1 = omega arith in
+      ap (chosen_of word) first_is ∙ rw e (ap (λ (k : ℕ). chosen_of word (drop k words)) more)

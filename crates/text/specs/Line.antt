@@ -1,6 +1,6 @@
 -- The words of a line, each after a space: numbers, offsets, and bytes in hexadecimal.
 -- Assumes nothing.
-use Rattle.std.specs.Prelude.{ℕ, ◌+◌, ◌*◌, ◌/◌, ◌%◌, Bool, true, cond, ◌&&◌, List, [], ◌∷◌, ◌++◌, eqb, pos, nat_abs, take, drop}
+use Rattle.std.specs.Prelude.{ℕ, ◌+◌, ◌*◌, ◌/◌, ◌%◌, Bool, true, cond, ◌&&◌, List, [], ◌∷◌, ◌++◌, eqb, ℤ, pos, nat_abs, take, drop}
 use Rattle.std.specs.Int.Signed.{lt_z}
 use Rattle.text.specs.Ascii.{ascii}
 use Rattle.text.specs.Text.{most_digits, digit, decimal_of}
@@ -28,16 +28,20 @@ signed_word negative size = cond negative (ascii " -") (ascii " ") ++ decimal_of
 abbrev pub most_signed : ℕ
 most_signed = 2 + most_digits
 
+-- a number that may be negative, by its size
+abbrev pub centred_word : ℤ → List ℕ
+centred_word z = signed_word (lt_z z (pos 0)) (nat_abs z)
+
 -- an offset, and the most bytes of it:
 abbrev pub offset_word : Offset → List ℕ
-offset_word offset = signed_word (lt_z offset.0 (pos 0)) (nat_abs offset.0)
+offset_word offset = centred_word offset.0
 
 abbrev pub most_offset : ℕ
 most_offset = most_signed
 
 -- TRACE-13: an age, and the most bytes of it:
 abbrev pub age_word : Age → List ℕ
-age_word age = signed_word (lt_z age.0 (pos 0)) (nat_abs age.0)
+age_word age = centred_word age.0
 
 abbrev pub most_age : ℕ
 most_age = most_signed

@@ -1,34 +1,26 @@
--- Text put into an out buffer, room for it, numbers in decimal, and the choice between two words.
+-- Text put behind other text, room for it, numbers in decimal, and the comparison of two words.
 -- Assumes nothing.
-use Rattle.std.specs.Prelude.{ℕ, zero, suc, ◌+◌, ◌-◌, ◌/◌, ◌%◌, Bool, true, false, ◌&&◌, List, [], ◌∷◌, ◌++◌, ◌≡◌, eqb, ltb, length, take, ⊤, Option, None, Some}
-use Rattle.std.proofs.lemmas.List.Edits.{sets}
+use Rattle.std.specs.Prelude.{ℕ, zero, suc, ◌+◌, ◌-◌, ◌/◌, ◌%◌, Bool, true, false, ◌&&◌, List, [], ◌∷◌, ◌++◌, ◌≡◌, eqb, ltb, length, ⊤, Option, None, Some}
+use Rattle.std.proofs.Common.{Bor}
 use Rattle.rules.specs.Rows.{when◌answer◌else◌}
-use Rattle.text.specs.declared.Chosen.{Chosen}
-use Rattle.text.specs.declared.Chosen.TheVariants.{First, Second, Neither}
 
--- Text put into an out buffer at a place: the place after it, and what the buffer holds then.
-pub record PutAt (before : List ℕ) (at : ℕ) (text after : List ℕ) (next : ℕ) : Type 0 where
-  pub place : next ≡ at + length text
-  pub bytes : after ≡ sets before at text
-
--- OPEN-2: two results that one input allows agree, in the place and in every byte.
+-- OPEN-2: two results that one input allows agree in every byte: the text that is put behind another.
 abbrev pub PutsAgree : Type 0
-PutsAgree = (before : List ℕ) (at : ℕ) (text after after' : List ℕ) (next next' : ℕ)
-    → PutAt before at text after next → PutAt before at text after' next' → (after ≡ after') × (next ≡ next')
+PutsAgree = (before text after after' : List ℕ) → after ≡ before ++ text → after' ≡ before ++ text → after ≡ after'
 
--- TRACE-16, CUT-3: what was written by then, where it is known, so that with what the out buffer holds before the place it is all that was
--- written and held before
-abbrev pub RoomMade : Option (List ℕ) → Option (List ℕ) → List ℕ → ℕ → ℕ → Type 0
-RoomMade None new out at place = ⊤
-RoomMade (Some xs) None out at place = ⊥
-RoomMade (Some xs) (Some ys) out at place = ys ++ take place out ≡ xs ++ take at out
+-- TRACE-16, CUT-3: what was written by then, where it is known, so that with the text that is held it is all that was written and held
+-- before
+abbrev pub RoomMade : Option (List ℕ) → Option (List ℕ) → List ℕ → List ℕ → Type 0
+RoomMade None new before after = ⊤
+RoomMade (Some xs) None before after = ⊥
+RoomMade (Some xs) (Some ys) before after = ys ++ after ≡ xs ++ before
 
--- TRACE-16, CUT-3: the place in an out buffer of this size for so many bytes at the most: where they have no room behind the place, what
--- the buffer holds is written, and the place is 0 again
-unfoldable pub place_of : ℕ → ℕ → ℕ → ℕ
-place_of most size at =
-    when ltb (size - at) most answer 0 else
-    at
+-- TRACE-16, CUT-3: the text that is held in a room of this size where so many bytes at the most come behind it: where they have no room
+-- there, it is written, and none is held
+unfoldable pub held_of : ℕ → ℕ → List ℕ → List ℕ
+held_of most size text =
+    when ltb (size - length text) most answer [] else
+    text
 
 -- the digit of a number below 16: 0 is 48, and A is 65
 abbrev pub digit : ℕ → ℕ
@@ -58,9 +50,9 @@ same_word [] (y ∷ ys) = false
 same_word (x ∷ xs) [] = false
 same_word (x ∷ xs) (y ∷ ys) = eqb x y && same_word xs ys
 
--- which of two words a word is
-unfoldable pub chosen_of : List ℕ → List ℕ → List ℕ → Chosen
-chosen_of word first second =
-    when (same_word word first) answer First else
-    when (same_word word second) answer Second else
-    Neither
+-- what a word stands for, in a list of words: what the first of them that is the same word stands for
+unfoldable pub chosen_of : {T : Type 0} → List ℕ → List (Bor (List ℕ) × T) → Option T
+chosen_of word [] = None
+chosen_of word (entry ∷ words) =
+    when (same_word word entry.0.now) answer Some entry.1 else
+    chosen_of word words

@@ -13,8 +13,6 @@ pub fn arg_count<R: Env>(rt: &R) -> usize {
 
 // A word, at the start of the room that is lent; or why it can't be read.
 pub fn arg<'a, R: Env>(rt: &R, i: usize, room: &'a mut [u8]) -> Result<&'a [u8], FillError> {
-    match rt.arg(i, room) {
-        Ok(size) => Ok(&room[..size]),
-        Err(why) => Err(why),
-    }
+    let size = rt.arg(i, room)?;
+    Ok(&room[..size])
 }

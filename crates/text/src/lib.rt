@@ -1,19 +1,21 @@
-// Text in an out buffer: numbers, offsets, ages and bytes, one word after the other; room for it, and writing it; the choice of a word.
+// Text in a room of a fixed size: numbers, offsets, ages and bytes, one word after the other; room for it, and writing it.
 // And the words of a command line, and what is said of an error.
 #![tactic(auto)]
 
 mod arguments;
 mod reason;
 
-ghost use Rattle.std.specs.Prelude.{◌≡◌, true, false, ◌+◌, ◌*◌, ◌≤◌, ◌<◌, length, take, drop};
+ghost use Rattle.std.specs.Prelude.{◌≡◌, ◌++◌, ◌+◌, ◌*◌, ◌≤◌, ◌<◌, length, drop, OnOk};
 ghost use Rattle.std.specs.Io.KnownBytes.{Appends};
-ghost use Rattle.text.specs.Text.{PutAt, RoomMade, place_of, digit, most_digits, decimal_in, decimal_of, same_word, chosen_of};
-ghost use Rattle.text.specs.Line.{number_word, end_of, signed_word, offset_word, age_word, digits_of, bytes_word, all_before, written_words};
-ghost use Rattle.text.specs.Line.{most_number, most_end, most_signed, most_offset, most_age, most_bytes_word, most_written_words};
+ghost use Rattle.text.specs.Text.{RoomMade, held_of, chosen_of, digit, most_digits, decimal_in, decimal_of};
+ghost use Rattle.text.specs.Line.{number_word, end_of, centred_word, digits_of, bytes_word, all_before, written_words};
+ghost use Rattle.text.specs.Line.{most_number, most_end, most_signed, most_bytes_word, most_written_words};
 
 pub use arguments::{arg, arg_count};
-use clock::{Age, Offset};
+use arrayvec::ArrayVec;
+use clock::Centred;
 pub use reason::fail;
+use std::io;
 use std::io::Write;
 
 // The most digits of a number, and the most bytes of one after a space.
@@ -24,121 +26,76 @@ pub const MOST_NUMBER: usize = 1 + MOST_DIGITS;
 // What each byte of a lent buffer is before it is written to.
 pub const BEFORE: u8 = 0xA5;
 
-// A place in the out buffer with the room that was asked for, and whether writing what the buffer held failed.
-#[derive(Clone, Copy)]
-pub struct Place {
-    pub at: usize,
-    pub failed: bool,
-}
+// Stays: the room asked for, in each contract: it is another for each word, and no fact of a text.
 
-// What came of an input: the place after its text in the out buffer, and how many bytes of its file it used; none where it is not whole.
-#[derive(Clone, Copy)]
-pub struct Done {
-    pub next: usize,
-    pub used: usize,
-}
-
-// Which of two words a word is.
-#[derive(Clone, Copy)]
-pub enum Chosen {
-    First,
-    Second,
-    Neither,
-}
-
-impl Done {
-    // No whole input is there.
-    pub fn not_whole() -> Done
-        ensures { (result.next ≡ 0) × (result.used ≡ 0) }
-    {
-        Done { next: 0, used: 0 }
-    }
-}
-
-// Puts bytes at a place, and answers the place after them.
-pub fn put(out: &mut [u8], at: usize, s: &[u8]) -> usize
-    requires { at + length s.now ≤ length out.old }
-    ensures { PutAt out.old at s.now out.new result }
+// Puts bytes behind a text.
+pub fn put<const N: usize>(out: &mut ArrayVec<u8, N>, s: &[u8])
+    requires { length out.old.items + length s.now ≤ N }
+    ensures { out.new.items ≡ out.old.items ++ s.now }
 {
-    field::copy(out, at, s);
-    at + s.len()
+    let _fits = out.try_extend_from_slice(s);
 }
 
-// Puts a number in decimal at a place, in at most so many digits, and answers the place after it.
-fn put_decimal_in(out: &mut [u8], at: usize, n: u64, most: usize) -> usize
-    requires { at + most ≤ length out.old }
-    ensures put_at { PutAt out.old at (decimal_in most n) out.new result }
-    ensures upper_bound { result ≤ at + most }
+// Puts a number in decimal behind a text, in at most so many digits.
+// Stays: digit by digit: with the kit's `itoa` a replay of 60 MB took 0.21 to 0.30 s of user time, and 0.14 to 0.19 s as it is.
+fn put_decimal_in<const N: usize>(out: &mut ArrayVec<u8, N>, n: u64, most: usize)
+    requires { length out.old.items + most ≤ N }
+    ensures put { out.new.items ≡ out.old.items ++ decimal_in most n }
+    ensures upper_bound { length out.new.items ≤ length out.old.items + most }
 {
     if most == 0 {
-        return at;
+        return;
     }
     if n < 10 {
-        return put(out, at, &[digit(n as u8)]);
+        out.push(digit(n as u8));
+    } else {
+        put_decimal_in(out, n / 10, most - 1);
+        out.push(digit((n % 10) as u8));
     }
-    let next = put_decimal_in(out, at, n / 10, most - 1);
-    put(out, next, &[digit((n % 10) as u8)])
 }
 
-// Puts a number in decimal at a place, and answers the place after it.
-pub fn put_decimal(out: &mut [u8], at: usize, n: u64) -> usize
-    requires { at + most_digits ≤ length out.old }
-    ensures put_at { PutAt out.old at (decimal_of n) out.new result }
-    ensures upper_bound { result ≤ at + most_digits }
+// Puts a number in decimal behind a text.
+pub fn put_decimal<const N: usize>(out: &mut ArrayVec<u8, N>, n: u64)
+    requires { length out.old.items + most_digits ≤ N }
+    ensures put { out.new.items ≡ out.old.items ++ decimal_of n }
+    ensures upper_bound { length out.new.items ≤ length out.old.items + most_digits }
 {
-    put_decimal_in(out, at, n, MOST_DIGITS)
+    put_decimal_in(out, n, MOST_DIGITS);
 }
 
 // A number after a space.
-pub fn put_number(out: &mut [u8], at: usize, n: u64) -> usize
-    requires { at + most_number ≤ length out.old }
-    ensures put_at { PutAt out.old at (number_word n) out.new result }
-    ensures upper_bound { result ≤ at + most_number }
+pub fn put_number<const N: usize>(out: &mut ArrayVec<u8, N>, n: u64)
+    requires { length out.old.items + most_number ≤ N }
+    ensures put { out.new.items ≡ out.old.items ++ number_word n }
+    ensures upper_bound { length out.new.items ≤ length out.old.items + most_number }
 {
-    let next = put(out, at, b" ");
-    put_decimal(out, next, n)
+    put(out, b" ");
+    put_decimal(out, n);
 }
 
 // TRACE-13, CUT-1: the last line.
-pub fn put_end(out: &mut [u8], at: usize, count: u64) -> usize
-    requires { at + most_end ≤ length out.old }
-    ensures put_at { PutAt out.old at (end_of count) out.new result }
-    ensures upper_bound { result ≤ at + most_end }
+pub fn put_end<const N: usize>(out: &mut ArrayVec<u8, N>, count: u64)
+    requires { length out.old.items + most_end ≤ N }
+    ensures put { out.new.items ≡ out.old.items ++ end_of count }
+    ensures upper_bound { length out.new.items ≤ length out.old.items + most_end }
 {
-    let after_end = put(out, at, b"end");
-    let after_count = put_number(out, after_end, count);
-    put(out, after_count, b"\n")
+    put(out, b"end");
+    put_number(out, count);
+    put(out, b"\n");
 }
 
-// A size after a space, and after a minus where it is that of a negative number.
-fn put_signed(out: &mut [u8], at: usize, negative: bool, size: u32) -> usize
-    requires { at + most_signed ≤ length out.old }
-    ensures put_at { PutAt out.old at (signed_word negative size) out.new result }
-    ensures upper_bound { result ≤ at + most_signed }
+// TRACE-13: an age or an offset, or another number of theirs, after a space, and its size after a minus where it is negative.
+pub fn put_centred<const N: usize, T: Centred>(out: &mut ArrayVec<u8, N>, centred: T)
+    requires { length out.old.items + most_signed ≤ N }
+    ensures put { out.new.items ≡ out.old.items ++ centred_word (T.number centred) }
+    ensures upper_bound { length out.new.items ≤ length out.old.items + most_signed }
 {
-    if negative {
-        let next = put(out, at, b" -");
-        return put_decimal(out, next, size as u64);
+    if centred.negative() {
+        put(out, b" -");
+    } else {
+        put(out, b" ");
     }
-    put_number(out, at, size as u64)
-}
-
-// An offset after a space.
-pub fn put_offset(out: &mut [u8], at: usize, offset: Offset) -> usize
-    requires { at + most_offset ≤ length out.old }
-    ensures put_at { PutAt out.old at (offset_word offset) out.new result }
-    ensures upper_bound { result ≤ at + most_offset }
-{
-    put_signed(out, at, offset.negative(), offset.size())
-}
-
-// TRACE-13: an age after a space.
-pub fn put_age(out: &mut [u8], at: usize, age: Age) -> usize
-    requires { at + most_age ≤ length out.old }
-    ensures put_at { PutAt out.old at (age_word age) out.new result }
-    ensures upper_bound { result ≤ at + most_age }
-{
-    put_signed(out, at, age.negative(), age.size())
+    put_decimal(out, u64::from(centred.size()));
 }
 
 // A digit of a number below 16.
@@ -146,124 +103,84 @@ fn digit(n: u8) -> u8
     requires { n < 16 }
     ensures { result ≡ digit n }
 {
-    if n < 10 {
-        return b'0' + n;
-    }
-    b'A' + (n - 10)
+    if n < 10 { b'0' + n } else { b'A' + (n - 10) }
 }
 
 // Bytes, two digits each.
-fn put_digits(out: &mut [u8], at: usize, s: &[u8]) -> usize
-    requires { at + 2 * length s.now ≤ length out.old }
-    ensures put_at { PutAt out.old at (digits_of s.now) out.new result }
-    ensures upper_bound { result ≤ at + 2 * length s.now }
+fn put_digits<const N: usize>(out: &mut ArrayVec<u8, N>, s: &[u8])
+    requires { length out.old.items + 2 * length s.now ≤ N }
+    ensures put { out.new.items ≡ out.old.items ++ digits_of s.now }
+    ensures upper_bound { length out.new.items ≤ length out.old.items + 2 * length s.now }
 {
-    let mut next = at;
-    let mut i: usize = 0;
-    while i < s.len() {
-        let b = s[i];
-        out[next] = digit(b / 16);
-        out[next + 1] = digit(b % 16);
-        next += 2;
-        i += 1;
+    for b in s {
+        out.push(digit(b / 16));
+        out.push(digit(b % 16));
     }
-    next
 }
 
 // Bytes after a space; a dash for none.
-pub fn put_bytes(out: &mut [u8], at: usize, s: &[u8]) -> usize
-    requires { at + most_bytes_word (length s.now) ≤ length out.old }
-    ensures put_at { PutAt out.old at (bytes_word s.now) out.new result }
-    ensures upper_bound { result ≤ at + most_bytes_word (length s.now) }
+pub fn put_bytes<const N: usize>(out: &mut ArrayVec<u8, N>, s: &[u8])
+    requires { length out.old.items + most_bytes_word (length s.now) ≤ N }
+    ensures put { out.new.items ≡ out.old.items ++ bytes_word s.now }
+    ensures upper_bound { length out.new.items ≤ length out.old.items + most_bytes_word (length s.now) }
 {
-    if s.len() == 0 {
-        return put(out, at, b" -");
+    if s.is_empty() {
+        put(out, b" -");
+    } else {
+        put(out, b" ");
+        put_digits(out, s);
     }
-    let next = put(out, at, b" ");
-    put_digits(out, next, s)
-}
-
-// The first n bytes, all where there are fewer.
-fn first(s: &[u8], n: usize) -> &[u8]
-    ensures result_value { result.now ≡ take n s.now }
-    ensures result_in_bounds { length result.now ≤ length s.now }
-{
-    if s.len() < n {
-        return s;
-    }
-    &s[..n]
 }
 
 // Whether the bytes of a lent buffer past those written are still what stood there before.
-fn all_before(lent: &[u8], written: usize) -> bool
-    ensures { result ≡ all_before (drop written lent.now) }
+fn all_before(rest: &[u8]) -> bool
+    ensures { result ≡ all_before rest.now }
 {
-    let mut i = written;
-    while i < lent.len() {
-        if lent[i] != BEFORE {
-            return false;
-        }
-        i += 1;
-    }
-    true
+    rest.iter().all(|b| *b == BEFORE)
 }
 
 // The bytes written at the start of a lent buffer, after a space, and where another byte of it changed the word for that.
-pub fn put_written(out: &mut [u8], at: usize, lent: &[u8], written: usize) -> usize
-    requires { at + most_written_words (length lent.now) ≤ length out.old }
-    ensures put_at { PutAt out.old at (written_words lent.now written) out.new result }
-    ensures upper_bound { result ≤ at + most_written_words (length lent.now) }
+pub fn put_written<const N: usize>(out: &mut ArrayVec<u8, N>, lent: &[u8], written: usize)
+    requires { length out.old.items + most_written_words (length lent.now) ≤ N }
+    ensures put { out.new.items ≡ out.old.items ++ written_words lent.now written }
+    ensures upper_bound { length out.new.items ≤ length out.old.items + most_written_words (length lent.now) }
 {
-    let next = put_bytes(out, at, first(lent, written));
-    if all_before(lent, written) {
-        return next;
-    }
-    put(out, next, b" changed")
-}
-
-// Writes the first bytes of the out buffer to standard output, and answers whether all were written.
-pub fn print<W: Write>(to: &mut W, out: &[u8], at: usize) -> bool
-    requires { at ≤ length out.now }
-    ensures { result ≡ true → Appends (W.contents to.old) (W.contents to.new) (take at out.now) }
-{
-    to.write_all(&out[..at]).is_ok()
-}
-
-// The same, and says on standard error why where they can't be.
-pub fn written<W: Write, E: Write>(to: &mut W, err: &mut E, out: &[u8], at: usize) -> bool
-    requires { at ≤ length out.now }
-    ensures { result ≡ true → Appends (W.contents to.old) (W.contents to.new) (take at out.now) }
-{
-    match to.write_all(&out[..at]) {
-        Ok(()) => true,
-        Err(why) => {
-            fail(err, b"standard output", why);
-            false
-        }
+    let (first, rest) = lent.split_at(written.min(lent.len()));
+    put_bytes(out, first);
+    if !all_before(rest) {
+        put(out, b" changed");
     }
 }
 
-// Makes room for so many bytes behind a place: where there is not enough, what the out buffer holds is written.
-pub fn make_room<W: Write, E: Write>(
+// Writes a text to standard output, and says on standard error why where it can't be.
+pub fn written<W: Write, E: Write>(to: &mut W, err: &mut E, text: &[u8]) -> io::Result<()>
+    ensures { OnOk result (Appends (W.contents to.old) (W.contents to.new) text.now) }
+{
+    let written = to.write_all(text);
+    if let Err(why) = written {
+        fail(err, b"standard output", why);
+    }
+    written
+}
+
+// Makes room for so many bytes behind a text: where there is not enough, the text is written, and an empty one left.
+pub fn make_room<W: Write, E: Write, const N: usize>(
     to: &mut W,
     err: &mut E,
-    out: &[u8],
-    at: usize,
+    out: &mut ArrayVec<u8, N>,
     most: usize,
-) -> Place
-    requires { (at ≤ length out.now) × (most ≤ length out.now) }
-    ensures at_value { result.at ≡ place_of most (length out.now) at }
-    ensures most_in_bounds { result.at + most ≤ length out.now }
-    ensures writes { result.failed ≡ false → RoomMade (W.contents to.old) (W.contents to.new) out.now at result.at }
+) -> io::Result<()>
+    requires { most ≤ N }
+    ensures value { out.new.items ≡ held_of most N out.old.items }
+    ensures most_in_bounds { length out.new.items + most ≤ N }
+    ensures writes { OnOk result (RoomMade (W.contents to.old) (W.contents to.new) out.old.items out.new.items) }
 {
-    if most <= out.len() - at {
-        return Place { at, failed: false };
+    if most <= out.remaining_capacity() {
+        return Ok(());
     }
-    let whole = written(to, err, out, at);
-    Place {
-        at: 0,
-        failed: !whole,
-    }
+    let written = written(to, err, out.as_slice());
+    out.clear();
+    written
 }
 
 // Says these lines on standard error.
@@ -271,40 +188,74 @@ pub fn say<E: Write>(err: &mut E, line: &[u8]) {
     let _ = err.write_all(line);
 }
 
-// Whether two words are the same.
-fn same_word(word: &[u8], other: &[u8]) -> bool
-    ensures { result ≡ same_word word.now other.now }
+// What a word stands for, in a list of words: what the first of them that is the same word stands for.
+pub fn chosen_of<T: Copy>(word: &[u8], words: &[(&[u8], T)]) -> Option<T>
+    ensures { result ≡ chosen_of word.now words.now }
 {
-    word == other
-}
-
-pub fn chosen_of(word: &[u8], first: &[u8], second: &[u8]) -> Chosen
-    ensures { result ≡ chosen_of word.now first.now second.now }
-{
-    if same_word(word, first) {
-        return Chosen::First;
+    for (other, meaning) in words {
+        if word == *other {
+            return Some(*meaning);
+        }
     }
-    if same_word(word, second) {
-        return Chosen::Second;
-    }
-    Chosen::Neither
+    None
 }
 
 #[cfg(test)]
 mod tests {
     use super::*;
 
-    // The first bytes go behind those that the writer has.
+    // A text goes behind what the writer has.
     #[test]
     fn prints_the_first_bytes(rt: HostRuntime) {
-        let mut to = Vec::new(rt.alloc());
+        let mut to = ArrayVec::<u8, 8>::new();
+        let mut err = ArrayVec::<u8, 8>::new();
         assert!(rt;
-            print(&mut to, b"abcd", 3) && print(&mut to, b"ef", 1),
+            written(&mut to, &mut err, &b"abcd"[..3]).is_ok()
+                && written(&mut to, &mut err, &b"ef"[..1]).is_ok(),
             "all is written"
         );
         assert!(rt;
-            to.as_slice() == b"abce".as_slice(),
-            "the first bytes of each"
+            to.as_slice() == b"abce".as_slice() && err.is_empty(),
+            "one text behind the other, and nothing is said"
+        );
+    }
+
+    // A text is written where more has no room behind it, and only there.
+    #[test]
+    fn makes_room_where_there_is_none(rt: HostRuntime) {
+        let mut to = ArrayVec::<u8, 8>::new();
+        let mut err = ArrayVec::<u8, 8>::new();
+        let mut out = ArrayVec::<u8, 4>::new();
+        put(&mut out, b"ab");
+        assert!(rt;
+            make_room(&mut to, &mut err, &mut out, 2).is_ok()
+                && to.is_empty()
+                && out.as_slice() == b"ab".as_slice(),
+            "there is room"
+        );
+        assert!(rt;
+            make_room(&mut to, &mut err, &mut out, 3).is_ok()
+                && to.as_slice() == b"ab".as_slice()
+                && out.is_empty(),
+            "there is none"
+        );
+    }
+
+    // The first of the words that is the same says what a word stands for; a word that is none of them stands for nothing.
+    #[test]
+    fn chooses_the_same_word(rt: HostRuntime) {
+        let words = [
+            (b"steps".as_slice(), 1),
+            (b"packets".as_slice(), 2),
+            (b"steps".as_slice(), 3),
+        ];
+        assert!(rt;
+            chosen_of(b"steps", &words) == Some(1) && chosen_of(b"packets", &words) == Some(2),
+            "each word"
+        );
+        assert!(rt;
+            chosen_of(b"step", &words).is_none() && chosen_of(b"", &words).is_none(),
+            "no word"
         );
     }
 }

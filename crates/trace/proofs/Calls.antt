@@ -5,7 +5,8 @@ use mathlib.Core.Path.{◌≡◌, refl, sym, ap, ◌∙◌}
 use mathlib.Core.Bool.{Bool, true, false, not}
 use mathlib.Core.List.{List, []}
 use native.Mathlib.Omega.{arith}
-use borrow.Author.Tests.{eqb-true, eqb-false, lt-ltb, ne_eqb}
+use borrow.Author.Tests.{eqb-true, eqb-false, lt-ltb}
+use Rattle.std.proofs.lemmas.Bool.Decides.{nat_tests}
 use lib.Dec.{eqb}
 use lib.ListN.{length, get_or}
 use Rattle.rules.specs.Rows.{when◌answer◌else◌}
@@ -21,25 +22,17 @@ use Rattle.trace.specs.Record.{begin_kind, receive_kind, send_kind, tick_kind}
 use Rattle.trace.specs.Call.{room, begin_widths, given_from, no_role, given_in, call_of, OthersGive104, NoBytesOfTickAndClose}
 
 module _ (kind : ℕ) (bytes : List ℕ) where
-  pub begins : kind ≡ begin_kind → Call.Begin (given_in bytes) ≡ call_of kind bytes
+  begins : kind ≡ begin_kind → Call.Begin (given_in bytes) ≡ call_of kind bytes
   unfolding call_of
   begins e = rw e
 
-  pub receives : kind ≡ receive_kind → Call.Receive ≡ call_of kind bytes
-  unfolding call_of
-  receives e = rw e
-
-  pub sends : kind ≡ send_kind → Call.Send ≡ call_of kind bytes
-  unfolding call_of
-  sends e = rw e
-
-  pub ticks : kind ≡ tick_kind → Call.Tick ≡ call_of kind bytes
+  ticks : kind ≡ tick_kind → Call.Tick ≡ call_of kind bytes
   unfolding call_of
   ticks e = rw e
 
-  pub closes : (kind ≡ begin_kind → ⊥) → (kind ≡ receive_kind → ⊥) → (kind ≡ send_kind → ⊥) → (kind ≡ tick_kind → ⊥) → Call.Close ≡ call_of kind bytes
+  closes : (kind ≡ begin_kind → ⊥) → (kind ≡ receive_kind → ⊥) → (kind ≡ send_kind → ⊥) → (kind ≡ tick_kind → ⊥) → Call.Close ≡ call_of kind bytes
   unfolding call_of
-  closes n1 n2 n3 n4 = rw (ne_eqb kind begin_kind n1, ne_eqb kind receive_kind n2, ne_eqb kind send_kind n3, ne_eqb kind tick_kind n4)
+  closes n1 n2 n3 n4 = grind (arith, nat_tests)
 
 -- bytes of another size, or with a role over 1, hold a role over 1
 no_role_lem : (bytes : List ℕ) → (length bytes ≡ width_of begin_widths → responder < get_or (fields_of begin_widths bytes 0) 0 0) → responder < (given_in bytes).role

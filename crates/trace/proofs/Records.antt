@@ -1,12 +1,13 @@
--- What stands first in the bytes that are left of a trace: each case of `record_of`, that a whole record is there whole, and that no more than the most
+-- What stands first in the bytes that are left of a trace: the cases of `record_of`, that a whole record is there whole, and that no more than the most
 -- bytes of a record are looked at.
 -- Assumes nothing.
-use Prim.Native.Nat.{ℕ, ◌+◌, ◌≤◌, ◌<◌}
+use Prim.Native.Nat.{ℕ, ◌+◌, ◌≤◌}
 use mathlib.Core.Path.{◌≡◌, refl, sym, ap, ◌∙◌}
-use mathlib.Core.Bool.{Bool, true, false, ◌||◌, false≢true}
+use mathlib.Core.Bool.{Bool, true, false, ◌||◌}
 use mathlib.Core.List.{List, ◌++◌}
 use native.Mathlib.Omega.{arith}
-use borrow.Author.Tests.{ltb-false, lt-ltb, le-ltb, eq-eqb, ne_eqb}
+use borrow.Author.Tests.{ltb-false, le-ltb, eq-eqb, ne_eqb}
+use Rattle.std.proofs.lemmas.Bool.{or_parts}
 use lib.Dec.{eqb, ltb}
 use lib.ListN.{length, take, drop, length-append, length-drop, get_or-append}
 use lib.Seq.{take-append-le, drop-append-le}
@@ -20,14 +21,6 @@ use Rattle.trace.specs.declared.Next.TheVariants.{End, Bad, Whole}
 -- all faults of the record that stands first
 abbrev is_bad : List ℕ → Record → Bool
 is_bad s r = bad_fields r || cut_record s r
-
-either : (a b : Bool) → b ≡ true → (a || b) ≡ true
-either true b e = refl
-either false b e = e
-
-neither : (a b : Bool) → (a || b) ≡ false → (a ≡ false) × (b ≡ false)
-neither true b e = absurd (false≢true (sym e))
-neither false b e = (refl, e)
 
 -- what follows a fault does not matter
 after_fault : (a over b b' : Bool) → (over ≡ false → b ≡ b') → (a || over || b) ≡ (a || over || b')
@@ -47,13 +40,6 @@ module _ (s : List ℕ) (some : length s ≡ 0 → ⊥) where
   unfolding record_of
   by_fault b e = rw (ne_eqb (length s) 0 some, e)
 
-  pub fields_bad : bad_fields r ≡ true → record_of s ≡ Bad
-  fields_bad e = by_fault true (ap (λ (b : Bool). b || cut_record s r) e)
-
-  pub cut_bad : length s < size_of r → record_of s ≡ Bad
-  unfolding cut_record
-  cut_bad h = by_fault true (either (bad_fields r) (cut_record s r) (lt-ltb (length s) (size_of r) h))
-
   pub is_whole : bad_fields r ≡ false → size_of r ≤ length s → record_of s ≡ Whole r
   unfolding cut_record
   is_whole e h = by_fault false (ap (λ (b : Bool). b || cut_record s r) e ∙ le-ltb (length s) (size_of r) h)
@@ -64,12 +50,12 @@ unfolding record_of cut_record
 whole_fits s r = by (eqb (length s) 0) (is_bad s (fields_at s)) refl
   where
     by : (none bad : Bool) → is_bad s (fields_at s) ≡ bad → (when none answer End else when bad answer Bad else Whole (fields_at s)) ≡ Whole r → size_of r ≤ length s
-    by true bad b e = let z : ◌≡◌ {A = ℕ} 0 1 = cc in let f : ⊥ = omega arith in absurd f
-    by false true b e = let z : ◌≡◌ {A = ℕ} 0 1 = cc in let f : ⊥ = omega arith in absurd f
+    by true bad b e = cc
+    by false true b e = cc
     by false false b e =
         let same : fields_at s ≡ r = cc in
         let f = fields_at s in
-        let fits = ltb-false (length s) (size_of f) (neither (bad_fields f) (ltb (length s) (size_of f)) b).1 in
+        let fits = ltb-false (length s) (size_of f) (or_parts (bad_fields f) (ltb (length s) (size_of f)) b).1 in
         rw (← same) fits
 
 -- and has no more bytes than a record may have
@@ -78,13 +64,13 @@ unfolding record_of length_over
 whole_small s r = by (eqb (length s) 0) (is_bad s (fields_at s)) refl
   where
     by : (none bad : Bool) → is_bad s (fields_at s) ≡ bad → (when none answer End else when bad answer Bad else Whole (fields_at s)) ≡ Whole r → r.length ≤ most_record_bytes
-    by true bad b e = let z : ◌≡◌ {A = ℕ} 0 1 = cc in let f : ⊥ = omega arith in absurd f
-    by false true b e = let z : ◌≡◌ {A = ℕ} 0 1 = cc in let f : ⊥ = omega arith in absurd f
+    by true bad b e = cc
+    by false true b e = cc
     by false false b e =
         let same : fields_at s ≡ r = cc in
         let f = fields_at s in
-        let fields = neither (bad_fields f) (cut_record s f) b in
-        let few = ltb-false most_record_bytes f.length (neither (wrong_mark f || unknown_kind f) (ltb most_record_bytes f.length) fields.0).1 in
+        let fields = or_parts (bad_fields f) (cut_record s f) b in
+        let few = ltb-false most_record_bytes f.length (or_parts (wrong_mark f || unknown_kind f) (ltb most_record_bytes f.length) fields.0).1 in
         rw (← same) few
 
 -- bytes that follow are not looked at

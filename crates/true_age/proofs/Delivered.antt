@@ -13,7 +13,8 @@ use Rattle.clock.specs.declared.Count.{Count}
 use Rattle.message.specs.Read.{parsed_of, data_of}
 use Rattle.message.specs.declared.Header.{Header}
 use Rattle.message.specs.declared.Tail.{Tail}
-use Rattle.message.specs.declared.Parsed.{Parsed}
+use Rattle.std.proofs.Common.{Some}
+use Rattle.message.specs.Layout.{whole}
 use Rattle.message.proofs.Accepted.{accepted_data}
 use Rattle.connection.specs.declared.Connection.{Connection}
 use Rattle.connection.specs.Connection.{opened, clocked, heard}
@@ -46,7 +47,7 @@ module _ (c : Connection) (now : Count) (message : List ℕ) where
   unfolding delivers_to
   in_set_up k e = rw e refl
 
-  all_with : (k : ℕ) → delivers_to c k ≡ true → (h : Header) (t : Tail) → parsed_of message ≡ Parsed.Whole h t → h.kind ≡ 6
+  all_with : (k : ℕ) → delivers_to c k ≡ true → (h : Header) (t : Tail) → parsed_of message ≡ Some (whole h t) → h.kind ≡ 6
       → t.«data» ≡ (when delivers_to c k answer length (data_of message) else 0)
   all_with k e h t w i = rw e (accepted_data message h t w i ∙ sym (length-drop 15 message))
 
@@ -58,7 +59,7 @@ module _ (c : Connection) (now : Count) (message : List ℕ) where
   unfolding raised
   raised_counted d k n e = both Counts (leb d.settings.limit (d.errors + 1)) _ _ (λ _. e) (λ _. e)
 
-  taken : (h : Header) (t : Tail) → parsed_of message ≡ Parsed.Whole h t → Expects c.phase h.kind → Counts (message_taken c now h t)
+  taken : (h : Header) (t : Tail) → parsed_of message ≡ Some (whole h t) → Expects c.phase h.kind → Counts (message_taken c now h t)
   unfolding message_taken start_taken answ1_taken answ2_taken est_taken end_taken data_taken
   taken h t w (Expects.x1 p k) = rw k (in_set_up 0 (rw p refl))
   taken h t w (Expects.x2 p k) = rw k (in_set_up 0 (rw p refl))

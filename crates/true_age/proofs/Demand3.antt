@@ -11,7 +11,8 @@ use Rattle.clock.specs.declared.Count.{Count}
 use Rattle.clock.specs.declared.Verdict.TheVariants.{Future, Late, Fresh}
 use Rattle.clock.specs.declared.Offset.{Offset}
 use Rattle.message.specs.declared.Header.{Header}
-use Rattle.message.specs.declared.Parsed.{Parsed}
+use Rattle.std.proofs.Common.{Option}
+use Rattle.message.specs.declared.Message.{Message}
 use Rattle.connection.specs.declared.Settings.{Settings}
 use Rattle.connection.specs.declared.Connection.{Connection}
 use Rattle.connection.specs.Connection.{opened}
@@ -92,7 +93,7 @@ demand_3 W began j role settings log t c x o u next band message room h s w m =
       own = k.1;
       age =
           age_claim W began j role settings log t c k.0 k.1 u next band h m r.number r.age.0 o
-          (λ e. ap (λ (a : Age). a.0) (receive_reports c now message room ∙ ap (λ (p : Parsed). reported_by c now p r.number) w ∙ rw e refl))
+          (λ e. ap (λ (a : Age). a.0) (receive_reports c now message room ∙ ap (λ (p : Option Message). reported_by c now p r.number) w ∙ rw e refl))
           (λ e. subst (λ (s : Settings). GoesByAge s.t_max r.age.0 r.number) k.0 (receive_goes_by_age c now message room e));
       hands_up = hands_up c now message room;
     }

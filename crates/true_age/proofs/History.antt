@@ -14,7 +14,8 @@ use Rattle.message.specs.Table.{offset_answ1, offset_answ2}
 use Rattle.message.specs.Read.{parsed_of}
 use Rattle.message.specs.declared.Header.{Header}
 use Rattle.message.specs.declared.Tail.{Tail}
-use Rattle.message.specs.declared.Parsed.{Parsed}
+use Rattle.std.proofs.Common.{Some}
+use Rattle.message.specs.Layout.{whole}
 use Rattle.connection.specs.declared.Settings.{Settings}
 use Rattle.connection.specs.declared.Connection.{Connection}
 use Rattle.connection.specs.Connection.{
@@ -229,7 +230,7 @@ module _ (W : World) (began : W.Moment) (role : ℕ) (settings : Settings) where
     unfolding raised After At
     raised_after d k n p s w m = both After (leb d.settings.limit (d.errors + 1)) _ _ (λ _ _. over) (λ _ _. same u next _ p s w m g)
 
-    module _ (h : Header) (tail : Tail) (w : parsed_of message ≡ Parsed.Whole h tail) where
+    module _ (h : Header) (tail : Tail) (w : parsed_of message ≡ Some (whole h tail)) where
       judged : JudgedBytes W began log u (parsed_of message) → Judged W began log u h
       judged m = subst (JudgedBytes W began log u) w m
 

@@ -1,5 +1,5 @@
 -- DEMAND-3: what the age of a judged message says of how old it truly is.
-use Rattle.std.specs.Prelude.{ℕ, ◌+◌, ◌-◌, ◌^◌, ◌<◌, ◌≡◌, true, List, [], eqb, length, ℤ, pos, ◌+ℤ◌, ◌-ℤ◌, ◌≤ℤ◌}
+use Rattle.std.specs.Prelude.{ℕ, ◌+◌, ◌-◌, ◌^◌, ◌<◌, ◌≡◌, true, List, [], eqb, length, ℤ, pos, ◌+ℤ◌, ◌-ℤ◌, ◌≤ℤ◌, Some}
 use Rattle.rules.specs.Rows.{when◌answer◌else◌}
 use Rattle.clock.specs.Clock.{verdict_of}
 use Rattle.clock.specs.declared.Verdict.TheVariants.{Future, Late, Fresh}
@@ -7,7 +7,7 @@ use Rattle.message.specs.Table.{offset_start, offset_answ1}
 use Rattle.message.specs.Read.{parsed_of, data_of}
 use Rattle.message.specs.declared.Header.{Header}
 use Rattle.message.specs.declared.Tail.{Tail}
-use Rattle.message.specs.declared.Parsed.{Parsed}
+use Rattle.message.specs.Layout.{whole}
 use Rattle.connection.specs.declared.Settings.{Settings}
 use Rattle.connection.specs.declared.Connection.{Connection}
 use Rattle.connection.specs.Connection.{opened}
@@ -89,5 +89,5 @@ Demand3 =
     → History W began role settings log t c
     → c.phase ≡ opened
     → (u : W.Moment) → W.early t u → InBand W began u j
-    → (message : List ℕ) (room : ℕ) (h : Header) (s : Tail) → parsed_of message ≡ Parsed.Whole h s
+    → (message : List ℕ) (room : ℕ) (h : Header) (s : Tail) → parsed_of message ≡ Some (whole h s)
     → (m : Judged W began log u h) → Claim W began j role settings log t c u message room h m

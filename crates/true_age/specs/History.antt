@@ -1,14 +1,12 @@
 -- The calls on one record since its begin, in a world of two clocks, and what is supposed of the peer's messages that they take.
-use Rattle.std.specs.Prelude.{ℕ, ◌≡◌, true, false, List, [], ◌∷◌, ◌⊎◌, eqb, length}
+use Rattle.std.specs.Prelude.{ℕ, ◌≡◌, true, false, List, [], ◌∷◌, ◌⊎◌, eqb, length, Option, Some, None}
 use Rattle.message.specs.Table.{offset_answ1, offset_answ2}
 use Rattle.message.specs.declared.Header.{Header}
-use Rattle.message.specs.declared.Parsed.{Parsed}
+use Rattle.message.specs.declared.Message.{Message}
 use Rattle.connection.specs.declared.Settings.{Settings}
 use Rattle.connection.specs.declared.Connection.{Connection}
 use Rattle.connection.specs.Connection.{opened}
 use Rattle.what_follows.specs.declared.Outcome.{Outcome}
-use Rattle.what_follows.specs.declared.Reply.{Reply}
-use Rattle.what_follows.specs.declared.Reply.TheVariants.{Nothing, Send}
 use Rattle.calls.specs.declared.Call.{Call}
 use Rattle.calls.specs.Calls.{initiator, rule_of, outcome_of, given}
 use Rattle.true_age.specs.Clocks.{World, count_of}
@@ -20,9 +18,9 @@ module _ (W : World) where
     pub header : Header
 
   -- what we wrote on this connection, the newest first: a call that sends adds one
-  abbrev pub with_written : W.Moment → Reply → List Ours → List Ours
-  with_written u Nothing log = log
-  with_written u (Send h t) log = record { at = u; header = h } ∷ log
+  abbrev pub with_written : W.Moment → Option Message → List Ours → List Ours
+  with_written u None log = log
+  with_written u (Some m) log = record { at = u; header = m.header } ∷ log
 
   -- x is the n-th that we wrote, counted from 0
   pub data Written : ℕ → Ours → List Ours → Type 0 where
@@ -61,9 +59,9 @@ module _ (W : World) where
       pub reports : (h.kind ≡ offset_answ1) ⊎ (h.kind ≡ offset_answ2) → Reports log h
 
     -- the same of bytes; of bytes that are no message nothing is supposed
-    abbrev pub JudgedBytes : List Ours → W.Moment → Parsed → Type 0
-    JudgedBytes log taken Parsed.Malformed = Unit {0}
-    JudgedBytes log taken (Parsed.Whole h t) = Judged log taken h
+    abbrev pub JudgedBytes : List Ours → W.Moment → Option Message → Type 0
+    JudgedBytes log taken None = Unit {0}
+    JudgedBytes log taken (Some m) = Judged log taken m.header
 
     -- DEMAND-3: from begin on each call gets our count as its now and the record that the one before left. Any calls in any order, any
     -- bytes and rooms, refusals included. What we wrote, the moment of the last call, and the record that it left.

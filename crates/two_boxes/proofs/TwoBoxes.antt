@@ -1,6 +1,7 @@
 -- Two boxes of ours, joined, do open.
 -- Assumes nothing.
 use Prim.Native.Nat.{ℕ, suc, ◌+◌, ◌-◌, ◌^◌, ◌≤◌, ◌<◌}
+use Rattle.std.proofs.Math.Bool.{and-false}
 use mathlib.Core.Path.{◌≡◌, refl, ap, ◌∙◌}
 use mathlib.Core.Bool.{Bool, true, false, not, ◌||◌}
 use mathlib.Core.List.{List, []}
@@ -38,11 +39,12 @@ use Rattle.message.specs.Table.{
 use Rattle.message.specs.Read.{later_stamp, check_over, parsed_of}
 use Rattle.message_writing.specs.Writing.{message_bytes, allowed_of}
 use Rattle.round_trips.specs.Message.{Ranges, Allowed}
-use Rattle.message.proofs.Rows.{and_false}
 use Rattle.round_trips.proofs.Message.{totals, written_reads_back}
 use Rattle.message.specs.declared.Header.{Header}
 use Rattle.message.specs.declared.Tail.{Tail}
-use Rattle.message.specs.declared.Parsed.{Parsed}
+use Rattle.std.proofs.Common.{Option, Some}
+use Rattle.message.specs.declared.Message.{Message}
+use Rattle.message.specs.Layout.{whole}
 use Rattle.connection.specs.declared.Connection.{Connection}
 use Rattle.connection.specs.Connection.{
   closed,
@@ -65,8 +67,6 @@ use Rattle.connection.specs.Connection.{
 }
 use Rattle.connection.proofs.Ranges.{in_range}
 use Rattle.peer_faults.specs.declared.Expectation.TheVariants.{Expected}
-use Rattle.what_follows.specs.declared.Reply.{Reply}
-use Rattle.what_follows.specs.declared.Reply.TheVariants.{Send}
 use Rattle.what_follows.specs.declared.Outcome.{Outcome}
 use Rattle.peer_faults.specs.Faults.{expectation_of, number_judged, not_ahead, beyond_n, gap, wrong_echo, accepts, check_failed, age_fault, fault_number}
 use Rattle.what_follows.specs.Follows.{
@@ -140,15 +140,15 @@ or_none false = refl
 -- ---- the bytes
 
 -- what a call sends stands at the start of its out buffer
-sent_bytes : (o : Outcome) (h : Header) (t : Tail) (lent out : List ℕ) → o.reply ≡ Send h t → length (message_bytes h t lent) ≤ length out
+sent_bytes : (o : Outcome) (h : Header) (t : Tail) (lent out : List ℕ) → o.reply ≡ Some (whole h t) → length (message_bytes h t lent) ≤ length out
     → sent_by (left_by o lent out) ≡ message_bytes h t lent
 sent_bytes o h t lent out e r =
-    ap (λ (x : Reply). take (length (reply_bytes x lent)) (sets out 0 (reply_bytes x lent))) e
+    ap (λ (x : Option Message). take (length (reply_bytes x lent)) (sets out 0 (reply_bytes x lent))) e
     ∙ ap (take (length (message_bytes h t lent))) (sets-eq (message_bytes h t lent) out 0 (omega arith))
     ∙ take-append_seam (message_bytes h t lent) (drop (0 + length (message_bytes h t lent)) out)
 
-sent_reads : (x : Leaves) (o : Outcome) (h : Header) (t : Tail) (lent out : List ℕ) → x ≡ left_by o lent out → o.reply ≡ Send h t
-    → length (message_bytes h t lent) ≤ length out → Ranges h t → Allowed h t lent → parsed_of (sent_by x) ≡ Parsed.Whole h t
+sent_reads : (x : Leaves) (o : Outcome) (h : Header) (t : Tail) (lent out : List ℕ) → x ≡ left_by o lent out → o.reply ≡ Some (whole h t)
+    → length (message_bytes h t lent) ≤ length out → Ranges h t → Allowed h t lent → parsed_of (sent_by x) ≡ Some (whole h t)
 sent_reads x o h t lent out i e r f a =
     ap (λ (y : Leaves). parsed_of (sent_by y)) i ∙ ap parsed_of (sent_bytes o h t lent out e r) ∙ written_reads_back h t f lent a
 
@@ -176,7 +176,7 @@ no_refusal c now room l g r =
     )
 
 module _ (c : Connection) (now : Count) (message : List ℕ) (room : ℕ) (h : Header) (t : Tail) (l : Live c) (r : est_size ≤ room)
-    (p : parsed_of message ≡ Parsed.Whole h t) (x : expectation_of c.phase h.kind ≡ Expected) (k : ℕ) (f : fault_number c now h t ≡ k)
+    (p : parsed_of message ≡ Some (whole h t)) (x : expectation_of c.phase h.kind ≡ Expected) (k : ℕ) (f : fault_number c now h t ≡ k)
     (no-data : eqb h.kind application ≡ false) where
   judged : goes_back now.0 c.clock.0 ≡ false → expired c now ≡ false → receive_outcome c now message room ≡ reporting no_age (follows_of c now h t k)
   unfolding receive_outcome step_of
@@ -188,7 +188,7 @@ module _ (c : Connection) (now : Count) (message : List ℕ) (room : ℕ) (h : H
   unfolding expired
   judged_in_time e w =
       judged (rw e (waited_goes_on now.0 c.wait_start.0 (omega (arith, (in_range c.settings l.settings).t_start))))
-      (rw (lt-leb c.settings.t_start (wait_of now.0 c.wait_start.0) w) (and_false (timed c.phase)))
+      (rw (lt-leb c.settings.t_start (wait_of now.0 c.wait_start.0) w) (and-false (timed c.phase)))
 
 -- of messages 3 to 5: where d is 1 and the echo is right, the clock check decides
 check_decides : (c : Connection) (now : Count) (h : Header) (t : Tail) → offset_answ2 ≤ h.kind → h.kind ≤ offset_end
@@ -374,7 +374,7 @@ module _ (b : Boxes) (j : Joined b) where
 
   -- ---- OffsetStart arrives
 
-  start_reads : parsed_of (sent_by (begins b)) ≡ Parsed.Whole (start b) (period_tail b.initiator.period)
+  start_reads : parsed_of (sent_by (begins b)) ≡ Some (whole (start b) (period_tail b.initiator.period))
   start_reads =
       sent_reads (begins b) (sends_start b) (start b) (period_tail b.initiator.period) [] b.out.start begins_is refl
       (omega (arith, (totals (start b) (period_tail b.initiator.period) []).0 refl, j.room_for_start))
@@ -402,7 +402,7 @@ module _ (b : Boxes) (j : Joined b) where
 
   -- ---- OffsetAnsw1 arrives
 
-  answ1_reads : parsed_of (sent_by (gets_start b)) ≡ Parsed.Whole (answ1 b) (period_tail b.responder.period)
+  answ1_reads : parsed_of (sent_by (gets_start b)) ≡ Some (whole (answ1 b) (period_tail b.responder.period))
   answ1_reads =
       sent_reads (gets_start b) (sends_answ1 b) (answ1 b) (period_tail b.responder.period) (sent_by (begins b)) b.out.answ1
       gets_start_is refl
@@ -431,7 +431,7 @@ module _ (b : Boxes) (j : Joined b) where
 
   -- ---- OffsetAnsw2 arrives
 
-  answ2_reads : parsed_of (sent_by (gets_answ1 b)) ≡ Parsed.Whole (answ2 b) empty_tail
+  answ2_reads : parsed_of (sent_by (gets_answ1 b)) ≡ Some (whole (answ2 b) empty_tail)
   answ2_reads =
       sent_reads (gets_answ1 b) (sends_answ2 b) (answ2 b) empty_tail (sent_by (gets_start b)) b.out.answ2 gets_answ1_is refl
       (omega (arith, (totals (answ2 b) empty_tail (sent_by (gets_start b))).2 refl, j.room_for_answ2))
@@ -487,7 +487,7 @@ module _ (b : Boxes) (j : Joined b) where
 
   -- ---- OffsetEst arrives
 
-  est_reads : parsed_of (sent_by (gets_answ2 b)) ≡ Parsed.Whole (est b) (est_tail b)
+  est_reads : parsed_of (sent_by (gets_answ2 b)) ≡ Some (whole (est b) (est_tail b))
   est_reads =
       sent_reads (gets_answ2 b) (sends_est b) (est b) (est_tail b) (sent_by (gets_answ1 b)) b.out.est gets_answ2_is refl
       (omega (arith, (totals (est b) (est_tail b) (sent_by (gets_answ1 b))).3 refl, j.room_for_est))
@@ -529,8 +529,8 @@ module _ (b : Boxes) (j : Joined b) where
   -- ---- OffsetEnd arrives
 
   module _ (check : ℕ) (l : check ≤ 1) (o : Outcome) (i : gets_est b ≡ left_by o (sent_by (gets_answ2 b)) b.out.end)
-      (e : o.reply ≡ Send (end b) (check_tail check)) where
-    end_reads : parsed_of (sent_by (gets_est b)) ≡ Parsed.Whole (end b) (check_tail check)
+      (e : o.reply ≡ Some (whole (end b) (check_tail check))) where
+    end_reads : parsed_of (sent_by (gets_est b)) ≡ Some (whole (end b) (check_tail check))
     end_reads =
         sent_reads (gets_est b) o (end b) (check_tail check) (sent_by (gets_answ2 b)) b.out.end i e
         (omega (arith, (totals (end b) (check_tail check) (sent_by (gets_answ2 b))).4 refl, j.room_for_end))

@@ -1,15 +1,15 @@
 -- What the peer's message does to a connection: what follows each of the peer's faults, and a message that is taken.
-use Rattle.std.specs.Prelude.{ℕ, ◌+◌, Bool, true, false, ◌&&◌, leb, eqb, pos, ◌-ℤ◌}
+use Rattle.std.specs.Prelude.{ℕ, ◌+◌, Bool, true, false, ◌&&◌, leb, eqb, pos, ◌-ℤ◌, Option, Some, None}
 use Rattle.rules.specs.Rows.{when◌answer◌else◌}
 use Rattle.clock.specs.Clock.{centred, no_age}
 use Rattle.clock.specs.declared.Age.{Age}
 use Rattle.clock.specs.declared.Count.{Count}
 use Rattle.clock.specs.declared.Offset.{Offset}
 use Rattle.message.specs.Table.{offset_start, offset_answ1, offset_answ2, offset_est, offset_end}
-use Rattle.message.specs.Layout.{period_tail, empty_tail, offsets_tail, check_tail}
+use Rattle.message.specs.Layout.{period_tail, empty_tail, offsets_tail, check_tail, whole}
 use Rattle.message.specs.declared.Header.{Header}
 use Rattle.message.specs.declared.Tail.{Tail}
-use Rattle.message.specs.declared.Parsed.{Parsed}
+use Rattle.message.specs.declared.Message.{Message}
 use Rattle.connection.specs.declared.Connection.{Connection}
 use Rattle.connection.specs.Connection.{
   initiator_waits_for4,
@@ -29,14 +29,12 @@ use Rattle.peer_faults.specs.declared.Expectation.{Expectation}
 use Rattle.peer_faults.specs.declared.Expectation.TheVariants.{Expected, Unexpected, Released}
 use Rattle.peer_faults.specs.declared.Fault.{Fault}
 use Rattle.peer_faults.specs.Faults.{expectation_of, fault_of}
-use Rattle.what_follows.specs.declared.Reply.{Reply}
-use Rattle.what_follows.specs.declared.Reply.TheVariants.{Nothing, Send}
 use Rattle.what_follows.specs.declared.Outcome.{Outcome}
 
 -- ---- what a call can come to
 
 -- every outcome is made here, of its parts in their order; AGE-8: none reports an age but by `reporting`
-abbrev pub comes_to : ℕ → Bool → ℕ → Reply → Connection → Outcome
+abbrev pub comes_to : ℕ → Bool → ℕ → Option Message → Connection → Outcome
 comes_to k released delivered reply next =
     record { number = k; released = released; delivered = delivered; age = no_age; reply = reply; next = next }
 
@@ -47,15 +45,15 @@ reporting age o =
 
 -- the connection goes on, with so many bytes delivered
 abbrev pub kept : ℕ → ℕ → Connection → Outcome
-kept k delivered next = comes_to k false delivered Nothing next
+kept k delivered next = comes_to k false delivered None next
 
 -- RECORD-3: the slot is released
 abbrev pub released : ℕ → ℕ → Outcome
-released k delivered = comes_to k true delivered Nothing all_zero
+released k delivered = comes_to k true delivered None all_zero
 
 -- a message is sent
 abbrev pub sending : Header → Tail → Connection → Outcome
-sending h t next = comes_to 0 false 0 (Send h t) next
+sending h t next = comes_to 0 false 0 (Some (whole h t)) next
 
 -- ---- 201
 
@@ -129,7 +127,7 @@ message_taken c now h t =
 
 -- SETUP-5, EST-209: OffsetEnd 0, and released
 unfoldable pub refusing : Connection → Count → Header → Outcome
-refusing c now h = comes_to 209 true 0 (Send (reply_header offset_end c now h) (check_tail 0)) all_zero
+refusing c now h = comes_to 209 true 0 (Some (whole (reply_header offset_end c now h) (check_tail 0))) all_zero
 
 -- ERR-1: raised by one; ERR-2: the limit releases. No other counter is there (SHUT-5).
 unfoldable pub raised : Connection → ℕ → ℕ → Outcome
@@ -166,7 +164,7 @@ met_of c now h t Expected = judged_by c now h t (fault_of c now h t)
 met_of c now h t Unexpected = kept 211 0 (clocked c now)
 met_of c now h t Released = released 211 0
 
--- PEER-ORDER: 201, 211, then the rest. FORM-10, of `Parsed`.
-unfoldable pub step_of : Connection → Count → Parsed → Outcome
-step_of c now Parsed.Malformed = malformed_of c now
-step_of c now (Parsed.Whole h t) = met_of c now h t (expectation_of c.phase h.kind)
+-- PEER-ORDER: 201, 211, then the rest. FORM-10, of the message as parsed.
+unfoldable pub step_of : Connection → Count → Option Message → Outcome
+step_of c now None = malformed_of c now
+step_of c now (Some m) = met_of c now m.header m.tail (expectation_of c.phase m.header.kind)

@@ -9,7 +9,7 @@ use native.Mathlib.Omega.{arith}
 use borrow.Author.Tests.{ltb-true}
 use lib.Dec.{ltb}
 use lib.ListN.{length}
-use Rattle.window.specs.Window.{empty_window, Within, left_of, low_of, used_of, ToppedUp}
+use Rattle.window.specs.Window.{empty_window, Within, left_of, low_of, used_of, failed_by, ToppedUp}
 use Rattle.window.specs.MovedOnce.{RoomForTwo, MovedAtMostOnce, Refills, starts, uses, refills, MovesNoMoreThanItReads, MovedNoMoreThanRead}
 use Rattle.window.specs.declared.Window.{Window}
 use Rattle.window.specs.declared.Refilled.{Refilled}
@@ -66,7 +66,7 @@ moves_no_more_than_it_reads most room two w moved read run =
 pub none_moved : (most room : ℕ) {w : Window} → w ≡ empty_window → MovedNoMoreThanRead most room w
 none_moved most room e = subst (λ (w : Window). MovedNoMoreThanRead most room w) (sym e) (record { moved = 0; read = 0; run = starts; no_more = omega arith })
 
-pub moved_topped_up : (most : ℕ) (before : List ℕ) (w : Window) (after : List ℕ) (r : Refilled) → RoomForTwo most (length before) → ToppedUp most before w after r → r.failed ≡ false
+pub moved_topped_up : (most : ℕ) (before : List ℕ) (w : Window) (after : List ℕ) (r : Refilled) → RoomForTwo most (length before) → ToppedUp most before w after r → failed_by r.last ≡ false
     → Within w (length before) → MovedNoMoreThanRead most (length before) w → MovedNoMoreThanRead most (length before) r.window × Within r.window (length before)
 moved_topped_up most before w after r two up ok within was = by (low_of most w) refl
   where

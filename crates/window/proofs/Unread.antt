@@ -10,7 +10,7 @@ use borrow.Author.Tests.{ltb-false, le-ltb}
 use lib.Dec.{ltb}
 use lib.ListN.{length, take, drop, length-drop, take-append-drop}
 use lib.Seq.{length-take-le, take-nil, take-take, drop-drop}
-use Rattle.window.specs.Window.{Within, left_of, unread, low_of, used_of, RefilledFrom}
+use Rattle.window.specs.Window.{Within, left_of, unread, low_of, used_of, failed_by, RefilledFrom}
 use Rattle.window.specs.declared.Window.{Window}
 use Rattle.window.specs.declared.Refilled.{Refilled}
 
@@ -72,7 +72,7 @@ module _ (before : List ℕ) (w : Window) (after : List ℕ) (r : Refilled) (ref
       ∙ take-append-drop (left_of w) bytes)
 
   -- unless a read failed, a window is not low after a refill of a buffer that holds the most bytes that one step looks at
-  pub refilled_not_low : (most : ℕ) → most ≤ length before → r.failed ≡ false → low_of most r.window ≡ false
+  pub refilled_not_low : (most : ℕ) → most ≤ length before → failed_by r.last ≡ false → low_of most r.window ≡ false
   unfolding low_of
   refilled_not_low most room ok = by r.window.ended refl
     where

@@ -1,7 +1,7 @@
 -- CUT-6, the promise of a large buffer: no byte of a file is moved more than once within it.
 -- Assumes nothing.
 use Rattle.std.specs.Prelude.{ℕ, ◌+◌, ◌-◌, ◌≤◌, ◌≡◌, true, false, List, length}
-use Rattle.window.specs.Window.{empty_window, left_of, low_of, used_of, RefilledFrom}
+use Rattle.window.specs.Window.{empty_window, left_of, low_of, used_of, failed_by, RefilledFrom}
 use Rattle.window.specs.declared.Window.{Window}
 use Rattle.window.specs.declared.Refilled.{Refilled}
 
@@ -13,7 +13,7 @@ RoomForTwo most room = most + most ≤ room
 abbrev pub MovedAtMostOnce : Type 0
 MovedAtMostOnce =
     (most : ℕ) (before after : List ℕ) (w : Window) (r : Refilled) (used : ℕ) → RoomForTwo most (length before)
-    → low_of most w ≡ true → RefilledFrom before w after r → r.failed ≡ false → low_of most (used_of used r.window) ≡ true
+    → low_of most w ≡ true → RefilledFrom before w after r → failed_by r.last ≡ false → low_of most (used_of used r.window) ≡ true
     → left_of w ≤ used
 
 -- A window on a file from before the first read: how many bytes its refills have moved in all, and how many they have read. Between them
@@ -23,7 +23,7 @@ pub data Refills (most room : ℕ) : Window → ℕ → ℕ → Type 0 where
   uses : {w : Window} {moved read : ℕ} → Refills most room w moved read → (used : ℕ) → w.from + used ≤ w.to
       → Refills most room (used_of used w) moved read
   refills : {w : Window} {moved read : ℕ} → Refills most room w moved read → low_of most w ≡ true
-      → (before after : List ℕ) (r : Refilled) → length before ≡ room → RefilledFrom before w after r → r.failed ≡ false
+      → (before after : List ℕ) (r : Refilled) → length before ≡ room → RefilledFrom before w after r → failed_by r.last ≡ false
       → Refills most room r.window (moved + left_of w) (read + (r.window.to - left_of w))
 
 -- CUT-6: no more bytes are moved in all than were read

@@ -1,12 +1,14 @@
 // A window on a file: a bounded buffer that is refilled, so that a file of any length is taken a part at a time.
 #![tactic(auto)]
 
-ghost use Rattle.std.specs.Prelude.{◌≡◌, false, ◌+◌, ◌-◌, ◌≤◌, length, take, drop};
-ghost use Rattle.std.proofs.lemmas.List.Edits.{sets};
+mod input;
+
+ghost use Rattle.std.specs.Prelude.{◌≡◌, false, ◌+◌, ◌-◌, ◌≤◌, ◌<◌, length, take};
 ghost use Rattle.window.specs.Answers.{Moved};
-ghost use Rattle.window.specs.Window.{empty_window, Within, low_of, used_of, ended_by, failed_by, came_by, as_it_was};
+ghost use Rattle.window.specs.Window.{empty_window, Within, unread, low_of, used_of, no_read, ended_by, failed_by, as_it_was};
 ghost use Rattle.window.specs.Window.{FilledFrom, RefilledFrom, ToppedUp};
 
+pub use input::Input;
 use std::env::FillError;
 use std::fs::Files;
 use std::io::{ErrorKind, Write};
@@ -17,6 +19,9 @@ const NO_ARGUMENT: i32 = 22;
 
 const TOO_LONG: i32 = 36;
 
+// The most bytes of a file's name.
+const MOST_NAME: usize = 4096;
+
 // The bytes of the buffer from `from` to `to` are read and not used up; `ended` says that the file has no more.
 #[derive(Clone, Copy)]
 pub struct Window {
@@ -25,61 +30,44 @@ pub struct Window {
     pub ended: bool,
 }
 
-// A read: how many bytes it had room for, and what it answered: how many bytes it gave, or -1 where it failed. No read is one that had room
-// for none.
+// A read: how many bytes it had room for, and what it answered. No read is one that had room for none.
 #[derive(Clone, Copy)]
 pub struct Read {
     pub room: usize,
-    pub got: isize,
+    pub got: io::Result<usize>,
 }
 
-// A window after a refill, whether a read failed, and the last read.
+// A window after a refill, and the last read.
 #[derive(Clone, Copy)]
 pub struct Refilled {
     pub window: Window,
-    pub failed: bool,
     pub last: Read,
 }
 
-// How many bytes a read gave, the read, and why it failed.
-#[derive(Clone, Copy)]
-struct Came {
-    count: usize,
-    read: Read,
-    why: Option<io::Error>,
-}
-
-// How far a buffer is filled, the last read, and why it failed.
+// How far a buffer is filled, and the last read.
 #[derive(Clone, Copy)]
 struct Filled {
     to: usize,
     last: Read,
-    why: Option<io::Error>,
-}
-
-// A refill, and why it failed.
-#[derive(Clone, Copy)]
-struct Attempt {
-    refilled: Refilled,
-    why: Option<io::Error>,
 }
 
 impl Read {
+    // No read was made.
+    fn none() -> Read
+        ensures { result ≡ no_read }
+    {
+        Read {
+            room: 0,
+            got: Ok(0),
+        }
+    }
+
     // Whether the file has ended: a read with room gave no byte.
+    #[tactic(auto, unfolding(crate::specs::Window::ended_by))]
     fn ended(self) -> bool
         ensures { result ≡ ended_by self }
     {
-        if self.room == 0 {
-            return false;
-        }
-        self.got == 0
-    }
-
-    // Whether the read failed.
-    fn failed(self) -> bool
-        ensures { result ≡ failed_by self }
-    {
-        self.got < 0
+        self.room != 0 && matches!(self.got, Ok(0))
     }
 }
 
@@ -95,14 +83,12 @@ impl Window {
     }
 
     // Whether it is to be refilled, for steps that look at `most` bytes at the most.
+    #[tactic(auto, unfolding(crate::specs::Window::low_of))]
     pub fn low(self, most: usize) -> bool
         requires { self.from ≤ self.to }
         ensures { result ≡ low_of most self }
     {
-        if self.to - self.from < most {
-            return !self.ended;
-        }
-        false
+        self.to - self.from < most && !self.ended
     }
 
     // So many of its bytes are used up.
@@ -113,9 +99,16 @@ impl Window {
     {
         Window {
             from: self.from + count,
-            to: self.to,
-            ended: self.ended,
+            ..self
         }
+    }
+
+    // The bytes that are left, of its buffer.
+    pub fn unread(self, buffer: &[u8]) -> &[u8]
+        requires { Within self (length buffer.now) }
+        ensures { result.now ≡ unread buffer.now self }
+    {
+        &buffer[self.from..self.to]
     }
 }
 
@@ -126,46 +119,20 @@ impl Refilled {
     {
         Refilled {
             window,
-            failed: false,
-            last: Read { room: 0, got: 0 },
+            last: Read::none(),
         }
     }
 }
 
-// Moves the bytes that are left to the front.
-fn keep(buffer: &mut [u8], from: usize, to: usize)
-    requires { (from ≤ to) × (to ≤ length buffer.old) }
-    ensures { buffer.new ≡ sets buffer.old 0 (take (to - from) (drop from buffer.old)) }
-{
-    let count = to - from;
-    let mut i: usize = 0;
-    while i < count {
-        buffer[i] = buffer[from + i];
-        i += 1;
-    }
-}
-
 // One read behind the first `at` bytes, which stay.
-fn read_behind<R: io::Read>(file: &mut R, buffer: &mut [u8], at: usize) -> Came
+fn read_behind<R: io::Read>(file: &mut R, buffer: &mut [u8], at: usize) -> Read
     requires { at ≤ length buffer.old }
-    ensures { (result.count ≡ came_by result.read) × (result.read.room ≡ length buffer.old - at)
-        × Moved result.read.room result.read.got × (take at buffer.new ≡ take at buffer.old) }
+    ensures { (result.room ≡ length buffer.old - at) × Moved result.room result.got × (take at buffer.new ≡ take at buffer.old) }
 {
     let room = buffer.len() - at;
-    match file.read(&mut buffer[at..]) {
-        Ok(count) => Came {
-            count,
-            read: Read {
-                room,
-                got: count as isize,
-            },
-            why: None,
-        },
-        Err(why) => Came {
-            count: 0,
-            read: Read { room, got: -1 },
-            why: Some(why),
-        },
+    Read {
+        room,
+        got: file.read(&mut buffer[at..]),
     }
 }
 
@@ -175,56 +142,35 @@ fn fill<R: io::Read>(file: &mut R, buffer: &mut [u8], at: usize) -> Filled
     ensures { FilledFrom buffer.old at buffer.new result }
 {
     let mut to = at;
-    let mut last = Read { room: 0, got: 0 };
+    let mut last = Read::none();
+    // Stays: a while, since a read says how far it goes on.
     while to < buffer.len() {
-        let came = read_behind(file, buffer, to);
-        last = came.read;
-        if came.count == 0 {
-            return Filled {
-                to,
-                last,
-                why: came.why,
-            };
+        last = read_behind(file, buffer, to);
+        let count = last.got.unwrap_or(0);
+        if count == 0 {
+            return Filled { to, last };
         }
-        to += came.count;
+        to += count;
     }
-    Filled {
-        to,
-        last,
-        why: None,
-    }
+    Filled { to, last }
 }
 
 // Moves what is left to the front of the buffer and reads more behind it.
-fn attempt_refill<R: io::Read>(file: &mut R, buffer: &mut [u8], window: Window) -> Attempt
-    requires { Within window (length buffer.old) }
-    ensures { RefilledFrom buffer.old window buffer.new result.refilled }
-{
-    let from = window.from;
-    let to = window.to;
-    keep(buffer, from, to);
-    let filled = fill(file, buffer, to - from);
-    let last = filled.last;
-    Attempt {
-        refilled: Refilled {
-            window: Window {
-                from: 0,
-                to: filled.to,
-                ended: last.ended(),
-            },
-            failed: last.failed(),
-            last,
-        },
-        why: filled.why,
-    }
-}
-
-// The same, without why it failed.
+// Stays: a buffer and its window, no `Input`: recording's `Progress`, of which cut's theorems speak, has two windows and no buffer.
 pub fn refill<R: io::Read>(file: &mut R, buffer: &mut [u8], window: Window) -> Refilled
     requires { Within window (length buffer.old) }
     ensures { RefilledFrom buffer.old window buffer.new result }
 {
-    attempt_refill(file, buffer, window).refilled
+    buffer.copy_within(window.from..window.to, 0);
+    let filled = fill(file, buffer, window.to - window.from);
+    Refilled {
+        window: Window {
+            from: 0,
+            to: filled.to,
+            ended: filled.last.ended(),
+        },
+        last: filled.last,
+    }
 }
 
 // Tops a window up for steps that look at `most` bytes at the most: refills it where it is low, and says why where its file can't be read.
@@ -239,16 +185,16 @@ pub fn topped_up<R: io::Read, E: Write>(
     requires { Within window (length buffer.old) × (most ≤ length buffer.old) }
     ensures topped_up { ToppedUp most buffer.old window buffer.new result }
     ensures within { Within result.window (length buffer.old) }
-    ensures window_value { result.failed ≡ false → low_of most result.window ≡ false }
+    ensures window_value { failed_by result.last ≡ false → low_of most result.window ≡ false }
 {
     if !window.low(most) {
         return Refilled::as_it_was(window);
     }
-    let attempt = attempt_refill(file, buffer, window);
-    if let Some(why) = attempt.why {
+    let refilled = refill(file, buffer, window);
+    if let Err(why) = refilled.last.got {
         text::fail(err, name, why);
     }
-    attempt.refilled
+    refilled
 }
 
 // Why an argument can't be read.
@@ -261,20 +207,20 @@ fn no_argument(why: FillError) -> io::Error {
 
 // Opens the file that an argument names.
 fn opened<R: Files>(rt: &R, name: Result<&[u8], FillError>) -> io::Result<R::File> {
-    match name {
-        Ok(name) => match str::from_utf8(name) {
-            Ok(path) => fs::open(rt, path),
-            Err(_) => Err(io::Error::from(ErrorKind::InvalidFilename)),
-        },
-        Err(why) => Err(no_argument(why)),
-    }
+    let name = name.map_err(no_argument)?;
+    let Ok(path) = str::from_utf8(name) else {
+        return Err(io::Error::from(ErrorKind::InvalidFilename));
+    };
+    fs::open(rt, path)
 }
 
-// Says why a file can't be read: by its name, or where the name is empty or could not be read by the word that stands for it.
-fn fail<E: Write>(err: &mut E, name: Result<&[u8], FillError>, word: &[u8], why: io::Error) {
+// The name of a file, or where that is empty or could not be read the word that stands for it.
+fn name_or<'a>(name: Result<&'a [u8], FillError>, word: &'a [u8]) -> &'a [u8]
+    ensures { 0 < length word.now → 0 < length result.now }
+{
     match name {
-        Ok(name) if name.len() > 0 => text::fail(err, name, why),
-        _ => text::fail(err, word, why),
+        Ok(name) if !name.is_empty() => name,
+        _ => word,
     }
 }
 
@@ -288,9 +234,35 @@ pub fn open_file<R: Files, E: Write>(
     match opened(rt, name) {
         Ok(file) => Some(file),
         Err(why) => {
-            fail(err, name, word, why);
+            text::fail(err, name_or(name, word), why);
             None
         }
+    }
+}
+
+// A program that works on the bytes of one file.
+pub trait WorksOnAFile {
+    // What it says on standard error where it has more arguments than the file's name.
+    const USAGE: &'static [u8];
+
+    // Its work on an open file, by whose name a fault is told.
+    fn work<R: io::Read>(rt: &HostRuntime, file: &mut R, name: &[u8])
+        requires { 0 < length name.now };
+}
+
+// Runs it on the file that its only argument names, or on standard input where there is none.
+pub fn run<P: WorksOnAFile>(rt: &HostRuntime) {
+    let mut err = rt.stderr();
+    match text::arg_count(rt) {
+        0 | 1 => P::work(rt, &mut rt.stdin(), b"standard input"),
+        2 => {
+            let mut room = [0u8; MOST_NAME];
+            let name = text::arg(rt, 1, &mut room);
+            if let Some(mut file) = open_file(rt, &mut err, name, b"FILE") {
+                P::work(rt, &mut file, name_or(name, b"FILE"));
+            }
+        }
+        _ => text::say(&mut err, P::USAGE),
     }
 }
 
@@ -318,8 +290,30 @@ mod tests {
             "the window"
         );
         assert!(rt;
-            !refilled.failed && refilled.last.room == 3 && refilled.last.got == 3,
+            refilled.last.room == 3 && matches!(refilled.last.got, Ok(3)),
             "the last read"
+        );
+    }
+
+    // An input gives the bytes of its file in their order, each once.
+    #[test]
+    fn tops_up_an_input(rt: HostRuntime) {
+        let mut file: &[u8] = b"abcdef";
+        let mut err: &mut [u8] = &mut [];
+        let mut input: Input<4> = Input::empty();
+        assert!(rt;
+            input.low(3) && input.top_up(&mut file, &mut err, b"file", 3).got.is_ok(),
+            "it is filled"
+        );
+        assert!(rt; input.unread() == b"abcd".as_slice(), "the first bytes");
+        input.use_up(2);
+        assert!(rt;
+            input.low(3) && input.top_up(&mut file, &mut err, b"file", 3).got.is_ok(),
+            "it is filled again"
+        );
+        assert!(rt;
+            input.unread() == b"cdef".as_slice(),
+            "what was left, and what follows"
         );
     }
 }

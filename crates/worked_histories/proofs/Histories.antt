@@ -12,7 +12,8 @@ use lib.IntN.{ℤ}
 use Rattle.message.specs.Table.{offset_answ1, offset_answ2}
 use Rattle.message.specs.Read.{message_header_of, parsed_of}
 use Rattle.message.specs.declared.Tail.{Tail}
-use Rattle.message.specs.declared.Parsed.{Parsed}
+use Rattle.std.proofs.Common.{Some}
+use Rattle.message.specs.Layout.{whole}
 use Rattle.connection.specs.declared.Settings.{Settings}
 use Rattle.connection.specs.declared.Connection.{Connection}
 use Rattle.connection.specs.Connection.{opened}
@@ -71,7 +72,7 @@ pub judges : {W : World} {began since : W.Moment} {role : ℕ} {settings : Setti
     {sent taken : W.Moment} {message : List ℕ} {k : Common} {n : Numbers}
     → Reaches W began role settings p → p.c.phase ≡ opened
     → W.early p.last taken → W.early since sent → W.early sent taken
-    → (tail : Tail) → parsed_of message ≡ Parsed.Whole (message_header_of message) tail → offset_answ2 < (message_header_of message).kind
+    → (tail : Tail) → parsed_of message ≡ Some (whole (message_header_of message) tail) → offset_answ2 < (message_header_of message).kind
     → (message_header_of message).stamp ≡ count_of (W.peers sent)
     → (first : Ours W) → Written W 0 first p.log
     → common_of W settings k.j first ≡ k → numbers_of W k p.c sent taken message ≡ n

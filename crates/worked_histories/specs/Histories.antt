@@ -1,9 +1,9 @@
 -- A history, call by call, and what is shown of one message that its next receive takes.
-use Rattle.std.specs.Prelude.{ℕ, ◌+◌, ◌^◌, ◌<◌, ◌≡◌, List, [], ℤ, pos, ◌+ℤ◌, ◌-ℤ◌}
+use Rattle.std.specs.Prelude.{ℕ, ◌+◌, ◌^◌, ◌<◌, ◌≡◌, List, [], ℤ, pos, ◌+ℤ◌, ◌-ℤ◌, Some}
 use Rattle.message.specs.Read.{parsed_of}
 use Rattle.message.specs.declared.Header.{Header}
 use Rattle.message.specs.declared.Tail.{Tail}
-use Rattle.message.specs.declared.Parsed.{Parsed}
+use Rattle.message.specs.Layout.{whole}
 use Rattle.connection.specs.declared.Settings.{Settings}
 use Rattle.connection.specs.declared.Connection.{Connection}
 use Rattle.connection.specs.Connection.{opened, all_zero}
@@ -101,7 +101,7 @@ pub record Judges (W : World) (began since : W.Moment) (role : ℕ) (settings : 
   pub onward : W.early p.last taken
   pub header : Header
   pub tail : Tail
-  pub whole : parsed_of message ≡ Parsed.Whole header tail
+  pub whole : parsed_of message ≡ Some (whole header tail)
   pub judged : Judged W since p.log taken header
   pub then_sent : judged.sent ≡ sent
   pub first : Ours W

@@ -6,7 +6,7 @@ ghost use Rattle.std.specs.Prelude.{◌≡◌, pos, ◌-ℤ◌};
 ghost use Rattle.clock.specs.Clock.{centred, age_of};
 ghost use Rattle.worked_numbers.specs.Worked.{offsets};
 
-use clock::{Age, Count, Offset, Verdict};
+use clock::{Age, Centred, Count, Offset, Verdict};
 use connection::Offsets;
 use std::io;
 use std::io::Print;
@@ -32,8 +32,7 @@ fn responder_offsets() -> Offsets {
 fn age(now: u32, stamp: u32, o: Offsets) -> Age
     ensures { result.0 ≡ age_of now stamp 0 o.min.0 }
 {
-    let min = o.min;
-    Age::of(Count(now), Count(stamp), 0, min)
+    Age::of(Count(now), Count(stamp), 0, o.min)
 }
 
 #[derive(Clone, Copy)]
@@ -64,38 +63,29 @@ fn distance() -> u16 {
 // An offset as a message carries it: the sign, then the magnitude.
 fn carried(o: Offset, out: &mut [u8; 5]) {
     let c = o.sign_magnitude();
-    field::write(out, 0, 1, c.sign as u32);
+    field::write(out, 0, 1, u32::from(c.sign));
     field::write(out, 1, 4, c.magnitude);
 }
 
-fn number_line(rt: &impl Print, what: &str, below_zero: bool, size: u32) -> io::Result<()> {
-    let sign = if below_zero { "-" } else { "" };
-    println!(rt; "{what}{sign}{size}")
+fn offset_line(rt: &impl Print, what: &str, offset: Offset) -> io::Result<()> {
+    let number = offset.number();
+    println!(rt; "{what}{number}")
 }
 
-fn offset_line(rt: &impl Print, what: &str, o: Offset) -> io::Result<()> {
-    number_line(rt, what, o.negative(), o.size())
+fn verdict_line(rt: &impl Print, what: &str, verdict: Verdict) -> io::Result<()> {
+    let number = match verdict {
+        Verdict::Future => 206,
+        Verdict::Late => 205,
+        Verdict::Fresh => 0,
+    };
+    println!(rt; "{what}{number}")
 }
 
-fn verdict_line(rt: &impl Print, what: &str, v: Verdict) -> io::Result<()> {
-    match v {
-        Verdict::Future => number_line(rt, what, false, 206),
-        Verdict::Late => number_line(rt, what, false, 205),
-        Verdict::Fresh => number_line(rt, what, false, 0),
-    }
-}
-
-fn byte_text(rt: &impl Print, b: u8) -> io::Result<()> {
-    print!(rt; " {b:02x}")
-}
-
-fn bytes_line(rt: &impl Print, what: &str, s: [u8; 5]) -> io::Result<()> {
+fn bytes_line(rt: &impl Print, what: &str, bytes: [u8; 5]) -> io::Result<()> {
     print!(rt; "{what}")?;
-    byte_text(rt, s[0])?;
-    byte_text(rt, s[1])?;
-    byte_text(rt, s[2])?;
-    byte_text(rt, s[3])?;
-    byte_text(rt, s[4])?;
+    for byte in bytes {
+        print!(rt; " {byte:02x}")?;
+    }
     println!(rt)
 }
 
@@ -106,21 +96,17 @@ fn main(rt: HostRuntime) -> io::Result<()> {
     offset_line(&rt, "initiator max ", o.max)?;
     offset_line(&rt, "responder min ", p.min)?;
     offset_line(&rt, "responder max ", p.max)?;
-    let a = worked_ages();
-    let later = a.later;
-    let present = a.present;
-    let future = a.future;
-    let wrapped = a.wrapped;
-    let responder_age = a.responder;
-    verdict_line(&rt, "age 40, T_max 40: ", later.verdict_of(40))?;
-    verdict_line(&rt, "age 40, T_max 39: ", later.verdict_of(39))?;
-    verdict_line(&rt, "age 0: ", present.verdict_of(40))?;
-    verdict_line(&rt, "age -1: ", future.verdict_of(40))?;
-    verdict_line(&rt, "age 36, T_max 36: ", wrapped.verdict_of(36))?;
-    verdict_line(&rt, "age 36, T_max 35: ", wrapped.verdict_of(35))?;
-    verdict_line(&rt, "age 45, T_max 45: ", responder_age.verdict_of(45))?;
-    verdict_line(&rt, "age 45, T_max 44: ", responder_age.verdict_of(44))?;
-    number_line(&rt, "last 65535, next 0: d = ", false, distance() as u32)?;
+    let ages = worked_ages();
+    verdict_line(&rt, "age 40, T_max 40: ", ages.later.verdict_of(40))?;
+    verdict_line(&rt, "age 40, T_max 39: ", ages.later.verdict_of(39))?;
+    verdict_line(&rt, "age 0: ", ages.present.verdict_of(40))?;
+    verdict_line(&rt, "age -1: ", ages.future.verdict_of(40))?;
+    verdict_line(&rt, "age 36, T_max 36: ", ages.wrapped.verdict_of(36))?;
+    verdict_line(&rt, "age 36, T_max 35: ", ages.wrapped.verdict_of(35))?;
+    verdict_line(&rt, "age 45, T_max 45: ", ages.responder.verdict_of(45))?;
+    verdict_line(&rt, "age 45, T_max 44: ", ages.responder.verdict_of(44))?;
+    let d = distance();
+    println!(&rt; "last 65535, next 0: d = {d}")?;
     let mut out = [0u8; 5];
     carried(p.min, &mut out);
     bytes_line(&rt, "-880 is", out)

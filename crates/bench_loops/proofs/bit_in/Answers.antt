@@ -19,8 +19,8 @@ other r d n = sym (ap (λ (x : ℕ). bit_xor (r / 2) (x * polynomial)) (odd r d 
     odd : (a b : ℕ) → (a % 2 ≡ b % 2 → ⊥) → (a + b) % 2 ≡ 1
     odd a b n = omega arith
 
-pub returns-then-register-bit : goal.returns-then-register-bit
-returns-then-register-bit c = same c.args.register c.args.bit c.if-register-bit.true
+pub returns-then-register-from : goal.returns-then-register-from
+returns-then-register-from c = same c.args.register c.args.bit (c.if-register-from.true ∙ c.from.ensures)
 
-pub returns-else-register-bit : goal.returns-else-register-bit
-returns-else-register-bit c = other c.args.register c.args.bit c.if-register-bit.false
+pub returns-else-register-from : goal.returns-else-register-from
+returns-else-register-from c = other c.args.register c.args.bit (λ e. c.if-register-from.false (e ∙ sym c.from.ensures))

@@ -5,8 +5,8 @@ use lib.Seq.{sets}
 use Rattle.calls.proofs.Replies.{put_is}
 use Rattle.calls.proofs.put.Goals as goal
 
-pub returns-in-Send : goal.returns-in-Send
-returns-in-Send c =
-    let x = put_is c.args.reply _ _ c.args.lent.now c.args.out.now c.in-Send.is c.requires in
+pub returns-in-Some : goal.returns-in-Some
+returns-in-Some c =
+    let x = put_is c.args.reply _ c.args.lent.now c.args.out.now c.in-Some.is c.requires in
     let w = c.write.ensures in
     (w.0 ∙ ap length x, w.1 ∙ ap (sets c.args.out.now 0) x)

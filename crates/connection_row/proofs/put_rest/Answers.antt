@@ -11,6 +11,6 @@ returns c =
       c.write-3.ensures,
       c.write-2.ensures,
       c.write.ensures,
-      c.bits-high.ensures,
-      c.bits-low.ensures,
+      c.bits-2.ensures,
+      c.bits.ensures,
     )

@@ -1,21 +1,24 @@
--- `connection_row::zeros` meets its contract: the bytes passed are 0, so the answer is that of the bytes left. The measure is the bytes left.
--- Assumes nothing.
-use mathlib.Core.Path.{sym, ◌∙◌}
-use native.Mathlib.Omega.{arith}
-use Rattle.connection_row.proofs.AllZero.{zero_first, other_first, none_left}
+-- `connection_row::zeros` meets its contract. Assumes nothing.
+use Prim.Native.Nat.{ℕ}
+use mathlib.Core.Path.{◌≡◌, refl, sym, ap, ◌∙◌}
+use mathlib.Core.Bool.{◌&&◌}
+use mathlib.Core.List.{List, [], ◌∷◌}
+use borrow.Author.Tests.{tests}
+use lib.Dec.{eqb}
+use Rattle.std.specs.List.{list_all}
+use Rattle.std.proofs.Common.{rules}
+use Rattle.std.proofs.lemmas.Iterator.{YieldsList-from_slice}
+use Rattle.std.proofs.lemmas.Iterator.Search.{all_from_yields_List}
+use Rattle.connection_row.specs.Stored.{zeros}
 use Rattle.connection_row.proofs.zeros.Goals as goal
 
-pub returns-then-s-i-ne0 : goal.returns-then-s-i-ne0
-returns-then-s-i-ne0 c =
-    let l = c.loop-i in
-    sym (sym l.invariant.1 ∙ other_first c.args.s.now l.i c.loop-i-test.true c.if-s-i-ne0.true)
-
-pub loop-i-preserved : goal.loop-i-preserved
-loop-i-preserved c =
-    let l = c.loop-i in
-    (omega arith, sym (zero_first c.args.s.now l.i c.loop-i-test.true c.if-s-i-ne0.false) ∙ l.invariant.1)
+all_zero : (s : List ℕ) → list_all (λ b. eqb b 0) s ≡ zeros s
+unfolding zeros
+all_zero [] = refl
+all_zero (b ∷ s) = ap (λ z. eqb b 0 && z) (all_zero s)
 
 pub returns : goal.returns
 returns c =
-    let l = c.loop-i in
-    sym (sym l.invariant.1 ∙ none_left c.args.s.now l.i (omega arith))
+    let s = c.args.s.now in
+    all_from_yields_List (λ b. eqb b 0) _ _ _ c.all.ensures.ran (YieldsList-from_slice s cc) (λ x b q k. search (rules, tests))
+    ∙ all_zero s

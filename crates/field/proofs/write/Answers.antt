@@ -27,14 +27,8 @@ none l at i x h = ap (λ (n : ℕ). sets l at (bytes_of n x)) (let e : i ≡ 0 =
 
 pub loop-i-preserved : goal.loop-i-preserved
 loop-i-preserved c =
-    let a = c.args in
-    let l = c.loop-i in (
-      omega arith,
-      (
-        length-set l.out _ _ ∙ l.invariant.1.0,
-        less l.out a.at l.i l.left (omega arith) ∙ l.invariant.1.1,
-      ),
-    )
+    let l = c.loop-i in
+    less l.out c.args.at l.i l.left (omega arith) ∙ l.invariant
 
 pub returns : goal.returns
-returns c = let l = c.loop-i in sym (none l.out c.args.at l.i l.left (omega arith)) ∙ l.invariant.1.1
+returns c = let l = c.loop-i in sym (none l.out c.args.at l.i l.left (omega arith)) ∙ l.invariant

@@ -2,7 +2,8 @@
 -- the header and what follows it. Assumes nothing.
 use native.Mathlib.Omega.{arith}
 use mathlib.Core.Path.{sym, ◌∙◌}
-use Rattle.message_writing.proofs.Steps.{room_for, no_room, not_allowed_lem, after_fits, written}
+use Rattle.message_writing.proofs.Steps.{Ready, room_for, no_room, not_allowed_lem, after_fits, written}
+use Rattle.message_writing.proofs.write.Goals.{then-out-total-via-then-out-total, then-out-total-via-else-out-total+then-not-allowed_of}
 use Rattle.message_writing.proofs.write.Goals as goal
 
 pub total_of-total-requires : goal.total_of-total-requires
@@ -10,8 +11,13 @@ total_of-total-requires c = room_for _ _ _ c.table_of-row.ensures (omega arith)
 
 pub returns-then-out-total : goal.returns-then-out-total
 returns-then-out-total c =
-    let a = c.args in
-    no_room a.out.now a.h a.t a.«data».now _ _ c.table_of-row.ensures c.total_of-total.ensures c.if-out-total.true
+    let m = c.args.message in
+    elim c.then-out-total.branch [
+      | then-out-total-via-then-out-total w ↦
+          no_room c.args.out.now m.header m.tail c.args.«data».now _ _ c.table_of-row.ensures c.total_of-total.ensures w.if-out-total.true
+      | then-out-total-via-else-out-total+then-not-allowed_of w ↦
+          not_allowed_lem c.args.out.now m.header m.tail c.args.«data».now (sym w.allowed_of.ensures ∙ w.if-not-allowed_of.true)
+    ]
 
 pub write_header-requires : goal.write_header-requires
 write_header-requires c =
@@ -21,7 +27,7 @@ write_header-requires c =
           (record {
             row_is = c.table_of-row.ensures;
             total_is = c.total_of-total.ensures;
-            allowed = sym c.allowed_of.ensures ∙ c.if-allowed_of.true;
+            allowed = sym c.allowed_of.ensures ∙ c.if-not-allowed_of.false;
             room = c.if-out-total.false;
           }),
     )
@@ -35,23 +41,18 @@ write_after-requires c =
           (record {
             row_is = c.table_of-row.ensures;
             total_is = c.total_of-total.ensures;
-            allowed = sym c.allowed_of.ensures ∙ c.if-allowed_of.true;
+            allowed = sym c.allowed_of.ensures ∙ c.if-not-allowed_of.false;
             room = c.if-out-total.false;
           }),
     )
 
-pub returns-then-allowed_of : goal.returns-then-allowed_of
-returns-then-allowed_of c =
+pub returns : goal.returns
+returns c =
     written _ _ _ _
     (record {
       row_is = c.table_of-row.ensures;
       total_is = c.total_of-total.ensures;
-      allowed = sym c.allowed_of.ensures ∙ c.if-allowed_of.true;
+      allowed = sym c.allowed_of.ensures ∙ c.if-not-allowed_of.false;
       room = c.if-out-total.false;
     })
     c.write_header.ensures c.write_after.ensures
-
-pub returns : goal.returns
-returns c =
-    let a = c.args in
-    not_allowed_lem a.out.now a.h a.t a.«data».now (sym c.allowed_of.ensures ∙ c.if-allowed_of.false)

@@ -8,4 +8,4 @@ pub returns : goal.returns
 returns c =
     let a = c.args in
     let f = c.ranges in
-    ap (come_down (left a.register)) c.wide-taken.ensures ∙ eight_bits_are_one_byte a.register a.byte f.register.fits f.byte.fits
+    ap (come_down (left a.register)) c.from-taken.ensures ∙ eight_bits_are_one_byte a.register a.byte f.register.fits f.byte.fits

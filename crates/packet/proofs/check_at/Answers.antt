@@ -1,17 +1,7 @@
--- `packet::check_at` meets its contract: the bytes that are left, put into the register as it is, give the answer.
--- Assumes nothing.
-use native.Mathlib.Omega.{arith}
-use Rattle.packet.proofs.Register.{checks_next, checks_last}
+-- `packet::check_at` meets its contract: the bytes go in one after the other. Assumes nothing.
+use Rattle.std.proofs.Common.{rules}
+use Rattle.packet.proofs.Register.{folds_in}
 use Rattle.packet.proofs.check_at.Goals as goal
 
-pub loop-k-preserved : goal.loop-k-preserved
-loop-k-preserved c =
-    let l = c.loop-k in
-    let a = c.args in
-    checks_next a.s.now a.at 8 l.q l.k c.byte_in-q.result (omega arith) (omega arith) c.byte_in-q.ensures l.invariant
-
 pub returns : goal.returns
-returns c =
-    let l = c.loop-k in
-    let a = c.args in
-    checks_last a.s.now a.at 8 l.q l.k (omega arith) l.invariant
+returns c = search (rules, folds_in)

@@ -1,13 +1,9 @@
--- `packet_types::has_link` meets its contract: the cell of the link.
--- Assumes nothing.
-use Rattle.rules.proofs.Tests.{tests}
+-- `packet_types::has_link` meets its contract: the cell of the link. Assumes nothing.
+use Rattle.std.proofs.Common.{rules}
 use Rattle.packet_types.specs.Types.{links_of}
 use Rattle.packet_types.proofs.has_link.Goals as goal
-
-pub returns-then-normal : goal.returns-then-normal
-unfolding links_of
-returns-then-normal c = search (tests, c.if-normal.true)
+use Rattle.packet_types.proofs.has_link.Goals.{then-normal, else-normal}
 
 pub returns : goal.returns
 unfolding links_of
-returns c = search (tests, c.if-normal.false)
+returns c = elim c.if-normal.branch [ then-normal w ↦ search rules | else-normal w ↦ search rules ]

@@ -1,7 +1,7 @@
 -- `recording::advance` meets its contract: a step, its line, and the progress after it. Assumes nothing.
 use mathlib.Core.Path.{◌∙◌, sym, ap, subst}
+use mathlib.Core.List.{◌++◌}
 use lib.ListN.{length, take}
-use Rattle.text.specs.Text.{PutAt}
 use Rattle.links.specs.declared.Taken.{Taken}
 use Rattle.recording.specs.Printed.{line_of}
 use Rattle.link_promises.proofs.Promises.{counts_its_user_data}
@@ -10,7 +10,7 @@ use Rattle.recording.proofs.Windows.{uses, lies_after}
 use Rattle.recording.proofs.advance.Goals as goal
 
 pub count_data-size-requires : goal.count_data-size-requires
-count_data-size-requires c =
+count_data-size-requires g c =
     let a = c.args in
     let counted = counts_its_user_data (take a.p.normal.to a.normal.now) a.p.normal.from (take a.p.redundant.to a.redundant.now) a.p.redundant.from a.callers.now a.ours a.p.state in record {
       lies = c.requires.lies;
@@ -18,7 +18,7 @@ count_data-size-requires c =
     }
 
 pub stepped_of-requires : goal.stepped_of-requires
-stepped_of-requires c =
+stepped_of-requires g c =
     let taken = c.taken_at-taken in
     let a = c.args in record {
       uses_no_more = uses a.normal.now a.redundant.now a.callers.now a.ours a.p c.requires.lies taken.ensures;
@@ -26,9 +26,9 @@ stepped_of-requires c =
     }
 
 pub returns : goal.returns
-returns c =
+returns g c =
     let taken = c.taken_at-taken in
-    let line = c.put_counted-next in
+    let line = c.put_counted in
     let a = c.args in
     let ns = length a.normal.now in
     let rs = length a.redundant.now in
@@ -36,7 +36,7 @@ returns c =
     let lies = lies_after ns rs a.p c.stepped_of.result taken.result used c.requires.lies c.stepped_of.ensures in record {
       advanced_to = record {
         progress = c.stepped_of.ensures ∙ ap (λ (t : Taken). stepped_of t a.p) taken.ensures;
-        put = subst (λ (t : Taken). PutAt a.out.now a.at (line_of t) line.new.out line.result) taken.ensures line.ensures.put_at;
+        put = line.ensures.put ∙ ap (λ (t : Taken). a.out.now.items ++ line_of t) taken.ensures;
       };
       lies_2 = (lies.0, lies.1, line.ensures.upper_bound);
     }

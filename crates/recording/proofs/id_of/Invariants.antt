@@ -1,14 +1,8 @@
--- `recording::id_of` meets its contract: after i digits the id is their number, below 16 ^ i, and the digits left decide. The measure is their count.
+-- `recording::id_of` meets its contract: after so many digits the id is their number, below 16 ^ that, and the digits left decide.
 -- Assumes nothing.
-use Prim.Native.Nat.{◌-◌, ◌^◌, ◌≤◌, ◌<◌}
-use mathlib.Core.Path.{◌≡◌}
-use lib.ListN.{drop}
-use Rattle.recording.specs.Ids.{all_digits, number_behind, id_digits}
+use Rattle.std.proofs.Common.{◌≡◌, ◌^◌, ◌<◌, drop}
+use Rattle.recording.specs.Ids.{number_behind}
 use Rattle.recording.proofs.id_of.Given as goal
 
-abbrev pub invariant-loop-i : goal.invariant-loop-i
-invariant-loop-i l =
-    (l.i ≤ id_digits) × (l.id < 16 ^ l.i) × (all_digits (drop l.i l.word) ≡ all_digits l.word) × (number_behind l.id (drop l.i l.word) ≡ number_behind 0 l.word)
-
-abbrev pub decreases-loop-i : goal.decreases-loop-i
-decreases-loop-i l = id_digits - l.i
+abbrev pub invariant-loop-byte : goal.invariant-loop-byte
+invariant-loop-byte l = (l.id < 16 ^ l.byte-index) × (number_behind l.id (drop l.byte-index l.word) ≡ number_behind 0 l.word)

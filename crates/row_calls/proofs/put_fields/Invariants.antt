@@ -10,11 +10,7 @@ use Rattle.row_calls.proofs.put_fields.Given as goal
 
 abbrev pub invariant-loop-i : goal.invariant-loop-i
 invariant-loop-i l =
-    (l.i ≤ field_count)
-    × (l.at ≡ width_of (take l.i row_widths))
+    (l.at ≡ width_of (take l.i row_widths))
     × (length l.row ≡ length l.initial.row)
     × (l.row ≡ sets l.initial.row 0 (row_of (take l.i row_widths) (take l.i l.fields)))
     × (fits (drop l.i row_widths) (drop l.i l.fields) ≡ fits row_widths l.fields)
-
-abbrev pub decreases-loop-i : goal.decreases-loop-i
-decreases-loop-i l = field_count - l.i

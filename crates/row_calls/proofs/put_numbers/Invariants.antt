@@ -10,10 +10,6 @@ use Rattle.row_calls.proofs.put_numbers.Given as goal
 
 abbrev pub invariant-loop-i : goal.invariant-loop-i
 invariant-loop-i l =
-    (l.i ≤ field_count)
-    × (l.at ≡ width_of (take l.i row_widths))
+    (l.at ≡ width_of (take l.i row_widths))
     × (length l.fields ≡ length l.initial.fields)
     × (l.fields ≡ sets l.initial.fields 0 (take l.i (fields_of row_widths l.row 0)))
-
-abbrev pub decreases-loop-i : goal.decreases-loop-i
-decreases-loop-i l = field_count - l.i

@@ -1,19 +1,23 @@
 -- `text::put_decimal_in` meets its contract: each branch puts what the definition says there. Assumes nothing.
-use Rattle.std.proofs.Common.{ℕ, refl, ap, sym, ◌∙◌, arith, ◌∷◌, []}
+use Rattle.std.proofs.Common.{ℕ, ◌-◌, ◌/◌, List, ◌++◌, ◌∷◌, [], ap, sym, ◌∙◌, append-nil}
+use Rattle.text.specs.Text.{decimal_in}
 use Rattle.text.proofs.Decimal.{no_digit, one_digit, more_digits}
-use Rattle.text.proofs.Line.{named}
 use Rattle.text.proofs.Puts.{and_then}
 use Rattle.text.proofs.+put_decimal_in.Goals as goal
 
-pub returns-then-most-eq0-clause-put_at : goal.returns-then-most-eq0-clause-put_at
-returns-then-most-eq0-clause-put_at t c =
-    named [] _ (sym (no_digit c.args.most c.args.n c.if-most-eq0.true)) (record { place = omega arith; bytes = refl })
+pub returns-then-most-eq0-clause-put : goal.returns-then-most-eq0-clause-put
+returns-then-most-eq0-clause-put g t c =
+    sym (ap (λ (l : List ℕ). c.args.out.now.items ++ l) (no_digit c.args.most c.args.n c.if-most-eq0.true) ∙ append-nil c.args.out.now.items)
 
-pub returns-then-n-lt10-clause-put_at : goal.returns-then-n-lt10-clause-put_at
-returns-then-n-lt10-clause-put_at t c =
-    named _ _ (ap (λ (d : ℕ). d ∷ []) c.digit.ensures ∙ sym (one_digit c.args.most c.args.n c.if-most-eq0.false c.if-n-lt10.true)) c.put.ensures
+pub returns-then-n-lt10-clause-put : goal.returns-then-n-lt10-clause-put
+returns-then-n-lt10-clause-put g t c =
+    let a = c.args in
+    c.push.ensures.items ∙ ap (λ (d : ℕ). a.out.now.items ++ d ∷ []) c.digit.ensures
+    ∙ ap (λ (l : List ℕ). a.out.now.items ++ l) (sym (one_digit a.most a.n c.if-most-eq0.false c.if-n-lt10.true))
 
-pub returns-clause-put_at : goal.returns-clause-put_at
-returns-clause-put_at t c =
-    named _ _ (sym (more_digits c.args.most c.args.n c.if-most-eq0.false c.if-n-lt10.false))
-    (and_then c.put_decimal_in-next.ensures.put_at (named _ _ (ap (λ (d : ℕ). d ∷ []) c.digit-2.ensures) c.put-2.ensures))
+pub returns-else-n-lt10-clause-put : goal.returns-else-n-lt10-clause-put
+returns-else-n-lt10-clause-put g t c =
+    let a = c.args in
+    and_then a.out.now.items (decimal_in (a.most - 1) (a.n / 10)) _ c.put_decimal_in.ensures.put
+    (c.push-else-n-lt10.ensures.items ∙ ap (λ (d : ℕ). c.put_decimal_in.new.out.items ++ d ∷ []) c.digit-else-n-lt10.ensures)
+    ∙ ap (λ (l : List ℕ). a.out.now.items ++ l) (sym (more_digits a.most a.n c.if-most-eq0.false c.if-n-lt10.false))

@@ -2,7 +2,7 @@
 use Rattle.window.proofs.Unread.{refilled_not_low}
 use Rattle.window.proofs.topped_up.Goals as goal
 
-pub returns-clause-window_value : goal.returns-clause-window_value
-returns-clause-window_value g c =
-    let refilled = c.attempt_refill-attempt in
-    refilled_not_low c.args.buffer.now c.args.window refilled.new.buffer refilled.result.refilled refilled.ensures c.args.most c.requires.1
+pub returns-in_default-clause-window_value : goal.returns-in_default-clause-window_value
+returns-in_default-clause-window_value g c =
+    let refilled = c.refill-refilled in
+    refilled_not_low c.args.buffer.now c.args.window refilled.new.buffer refilled.result refilled.ensures c.args.most c.requires.1

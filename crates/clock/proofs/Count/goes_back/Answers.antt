@@ -1,5 +1,5 @@
 -- `clock::Count::goes_back` meets its contract: the upper half is what is centred negative. Assumes nothing.
-use Rattle.std.proofs.Common.{◌^◌, leb, pos, ◌-ℤ◌, ap, ◌∙◌, rules}
+use Rattle.std.proofs.Common.{◌^◌, leb, pos, ◌-ℤ◌, ap, ◌∙◌}
 use Rattle.clock.specs.Clock.{goes_back, wait_of}
 use Rattle.clock.proofs.Wrapped.{centred_negative}
 use Rattle.clock.proofs.Count.goes_back.Goals as goal

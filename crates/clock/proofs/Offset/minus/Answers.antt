@@ -1,8 +1,12 @@
--- `clock::Offset::minus` meets its contract: a step mod 2^32, centred. Assumes nothing.
-use Rattle.std.proofs.Common.{◌∙◌, rules}
-use Rattle.clock.proofs.Wrapped.{centred_same, wrap_sub, wrapped_of}
+-- `clock::Offset::minus` meets its contract: wrapped is centred. Assumes nothing.
+use Rattle.std.proofs.Common.{◌∙◌, ◌-ℤ◌, w32, SFits, rules}
+use Rattle.std.proofs.lemmas.Int.{wrapping_sub_is}
+use Rattle.clock.proofs.Wrapped.{centred_wraps}
 use Rattle.clock.proofs.Offset.minus.Goals as goal
 
 pub returns : goal.returns
 returns c =
-    c.of_bits.ensures ∙ centred_same (wrap_sub c.wrapping_sub_u32.ensures.value (wrapped_of c.bits.ensures) (wrapped_of c.bits-2.ensures))
+    let a = c.args in
+    let f : SFits w32 a.self.0 = search rules in
+    let g : SFits w32 a.other.0 = search rules in
+    wrapping_sub_is w32 a.self.0 a.other.0 f g ∙ centred_wraps (a.self.0 -ℤ a.other.0)

@@ -1,10 +1,16 @@
--- `clock::Offset::negated` meets its contract: a step mod 2^32, centred. Assumes nothing.
-use Rattle.std.proofs.Common.{pos, ap, ◌∙◌, rules}
-use Rattle.clock.specs.Clock.{centred}
-use Rattle.clock.proofs.Wrapped.{centred_same, wrap_sub, wrapped_of, ≈-refl, zero_less}
+-- `clock::Offset::negated` meets its contract: wrapped is centred. Assumes nothing.
+use Rattle.std.proofs.Common.{ℤ, ◌∙◌, neg_ℤ, w32, SFits, to_z-of_z, ap, rules}
+use Rattle.std.specs.Int.{int_wrapping_neg}
+use Rattle.std.proofs.lemmas.Int.{wrapping_neg_is}
+use Rattle.clock.proofs.Wrapped.{centred_wraps}
 use Rattle.clock.proofs.Offset.negated.Goals as goal
 
 pub returns : goal.returns
 returns c =
-    c.of_bits.ensures ∙ centred_same (wrap_sub {a = 0} c.wrapping_sub_u32.ensures.value (≈-refl (pos 0)) (wrapped_of c.bits.ensures))
-    ∙ ap centred (zero_less c.args.self.0)
+    let z : ℤ = c.args.self.0 in
+    let f : SFits w32 z = search rules in
+    to_z-of_z {w = w32} (record { sfits = c.wrapping_neg.type_inv })
+    ∙ c.wrapping_neg.ensures
+    ∙ ap (int_wrapping_neg w32) (to_z-of_z f)
+    ∙ wrapping_neg_is w32 z f
+    ∙ centred_wraps (neg_ℤ z)
