@@ -326,6 +326,8 @@ fn begin_outcome(c: Connection, g: Given, now: Count, room: usize) -> Outcome
 }
 
 // What a call comes to, by its rule.
+// Inlined, as `make` is, into each caller: where the call is known, the match on it and the writing go, so that a tick costs no more than itself.
+#[inline(always)]
 fn outcome_of(c: Connection, call: Call, now: Count, lent: &[u8], room: usize) -> Outcome
     ensures { result ≡ outcome_of call c now lent.now room }
 {
@@ -381,6 +383,7 @@ fn called_with(o: Outcome, written: usize) -> Called
 }
 
 // Any call.
+#[inline(always)]
 pub fn make(c: Connection, call: Call, now: Count, lent: &[u8], out: &mut [u8]) -> Called
     ensures { leaves result out.new ≡ made call c now lent.now out.old }
 {
