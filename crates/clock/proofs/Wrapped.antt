@@ -2,6 +2,7 @@
 -- Assumes nothing.
 use Rattle.std.proofs.Common.{◌≡◌, ℕ, zero, suc, ◌+◌, ◌-◌, ◌*◌, ◌/◌, ◌%◌, ◌^◌, ◌<◌, ◌≤◌, Bool, true, false, not, T, ltb, leb, ℤ, pos, negsuc, ◌+ℤ◌, ◌-ℤ◌, neg_ℤ, nat_abs, sym, refl, ap, ◌∙◌, subst, arith, ltb→lt, nltb→le, w32, SFits, to_z, of_z, ltb-false, ltb-true, le-ltb, lt-ltb, le-leb}
 use borrow.Author.Tests.{lt-leb}
+use lib.IntN.{pos-ne-negsuc}
 use lib.Signed.{mag, lt_z}
 use Rattle.std.specs.Int.{int_wrap, int_rem_euclid}
 use mir.Val.{sel}
@@ -138,11 +139,16 @@ pub wrap_add : {a b : ℕ} {x y : ℤ} → pos a ≈ x → pos b ≈ y → pos (
 wrap_add {a} {b} f g =
     ≈-trans (record { on = (a + b) / 2 ^ 32; off = 0; apart = omega (arith, sum_is (pos a) (pos b)) }) (≈-sum f g)
 
-pub wrap_sub : {a b : ℕ} {x y : ℤ} → b < 2 ^ 32 → pos a ≈ x → pos b ≈ y → pos ((a + (2 ^ 32 - b)) % 2 ^ 32) ≈ x -ℤ y
-wrap_sub {a} {b} h f g =
-    ≈-trans {b = pos a -ℤ pos b}
-    (record { on = (a + (2 ^ 32 - b)) / 2 ^ 32; off = 1; apart = omega (arith, less_is (pos a) (pos b)) })
-    (≈-less f g)
+pub wrap_sub : {a b r : ℕ} {x y : ℤ} → (r + b) % 2 ^ 32 ≡ a → pos a ≈ x → pos b ≈ y → pos r ≈ x -ℤ y
+wrap_sub {a} {b} {r} e f g =
+    ≈-trans {b = pos a -ℤ pos b} (record { on = 0; off = (r + b) / 2 ^ 32; apart = omega (arith, less_is (pos a) (pos b)) }) (≈-less f g)
+
+rest_≈ : (a : ℕ) → pos (a % 2 ^ 32) ≈ pos a
+rest_≈ a = record { on = a / 2 ^ 32; off = 0; apart = omega arith }
+
+-- the same of the difference as the machine wraps it
+pub wrap_less : {a b : ℕ} {x y : ℤ} → b < 2 ^ 32 → pos a ≈ x → pos b ≈ y → pos ((a + (2 ^ 32 - b)) % 2 ^ 32) ≈ x -ℤ y
+wrap_less {a} {b} h f g = wrap_sub {a = a % 2 ^ 32} (omega arith) (≈-trans (rest_≈ a) f) g
 
 rest_is : (z : ℤ) → nat_abs (int_rem_euclid z (pos (2 ^ 32))) ≡ wrapped z
 unfolding wrapped modulo
@@ -161,13 +167,23 @@ wrapped_in (pos n) h = omega arith
 wrapped_in (negsuc n) h = omega arith
 
 -- the negation of a magnitude up to 2^31 is an i32
-neg_fits : (m : ℕ) → m ≤ 2 ^ 31 → SFits w32 (neg_ℤ (pos m))
+pub neg_fits : (m : ℕ) → m ≤ 2 ^ 31 → SFits w32 (neg_ℤ (pos m))
 neg_fits zero h = record { sfits = omega arith }
 neg_fits (suc m) h = record { sfits = omega arith }
 
 -- the number of 0 .. 2^32-1 that differs from another by a multiple of 2^32
 pub wrapped_is : (z : ℤ) (n : ℕ) → pos n ≈ z → n < 2 ^ 32 → wrapped z ≡ n
 wrapped_is z n e h = let f : pos (wrapped z) ≈ pos n = ≈-trans (wrapped-≈ z) (≈-sym e) in omega (arith, wrapped_lt z, f.apart)
+
+-- the bits of a number from 0 on, and of a negative one's negation, are its size, up to 2^31
+pub wrapped_from : (z : ℤ) → mag z < 2 ^ 31 → z ≡ pos (mag z) → nat_abs z ≡ wrapped z
+unfolding wrapped modulo
+wrapped_from (pos n) h e = omega arith
+wrapped_from (negsuc n) h e = absurd (pos-ne-negsuc n n (sym e))
+
+pub wrapped_negation : (z : ℤ) → mag z < 2 ^ 31 → z ≡ negsuc (mag z) → wrapped (centred (neg_ℤ z)) ≡ nat_abs z
+wrapped_negation (pos n) h e = absurd (pos-ne-negsuc n n e)
+wrapped_negation (negsuc n) h e = wrapped_is (centred (pos (suc n))) (suc n) (≈-sym (centred-≈ (pos (suc n)))) (omega arith)
 
 -- the negation of a magnitude, down to -2^31
 pub centred_negation : (m : ℕ) → m ≤ 2 ^ 31 → centred (neg_ℤ (centred (pos m))) ≡ neg_ℤ (pos m)

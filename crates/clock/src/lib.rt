@@ -141,9 +141,14 @@ impl Offset {
     pub fn sign_magnitude(self) -> SignMagnitude
         ensures { result ≡ sign_magnitude_of self.0 }
     {
+        let negative = self.negative();
         SignMagnitude {
-            sign: u8::from(self.negative()),
-            magnitude: self.size(),
+            sign: u8::from(negative),
+            magnitude: if negative {
+                self.negated().bits()
+            } else {
+                self.bits()
+            },
         }
     }
 

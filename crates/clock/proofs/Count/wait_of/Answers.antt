@@ -1,5 +1,5 @@
 -- `clock::Count::wait_of` meets its contract, by the law of wrapping differences. Assumes nothing.
-use Rattle.std.proofs.Common.{◌^◌, arith, rules}
+use Rattle.std.proofs.Common.{◌^◌, arith}
 use Rattle.rules.proofs.Modulo.{wrapping_sub}
 use Rattle.clock.specs.Clock.{wait_of, wrapped}
 use Rattle.clock.proofs.Count.wait_of.Goals as goal
