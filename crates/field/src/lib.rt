@@ -98,9 +98,12 @@ pub fn write(out: &mut [u8], at: usize, w: usize, x: u32)
 }
 
 // The bytes of s, from at.
+// Stays: a loop, and no `copy_from_slice`, for which the archive for C would need `memmove` from outside: a host without a C library links it.
 pub fn copy(out: &mut [u8], at: usize, s: &[u8])
     requires { at + length s.now ≤ length out.old }
     ensures { out.new ≡ sets out.old at s.now }
 {
-    out[at..at + s.len()].copy_from_slice(s);
+    for (i, byte) in s.iter().enumerate() {
+        out[at + i] = *byte;
+    }
 }
