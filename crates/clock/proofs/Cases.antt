@@ -51,11 +51,11 @@ pub read_minus : (s n : ℕ) → s ≡ 1 → 0 < n → n ≤ 2 ^ 31 → (r : Off
 unfolding offset_read
 read_minus s n e h k r q = rw e (simp (le-leb 1 n h, le-leb n (2 ^ 31) k) (ap (λ (z : ℤ). Some (offset z)) q))
 
-read_zero : (s n : ℕ) → s ≡ 1 → n < 1 → None ≡ offset_read s n
+pub read_zero : (s n : ℕ) → s ≡ 1 → n < 1 → None ≡ offset_read s n
 unfolding offset_read
 read_zero s n e h = rw e (simp (lt-leb 1 n h))
 
-read_over : (s n : ℕ) → s ≡ 1 → 2 ^ 31 < n → None ≡ offset_read s n
+pub read_over : (s n : ℕ) → s ≡ 1 → 2 ^ 31 < n → None ≡ offset_read s n
 unfolding offset_read
 read_over s n e h = let k : 1 ≤ n = omega arith in rw e (simp (le-leb 1 n k, lt-leb n (2 ^ 31) h))
 
