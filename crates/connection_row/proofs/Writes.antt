@@ -1,10 +1,10 @@
 -- Fields that are written one after the other are a row.
 -- Assumes nothing.
 use Prim.Native.Nat.{ℕ, ◌+◌, ◌≤◌}
-use mathlib.Core.Path.{◌≡◌, refl, sym, ap, ◌∙◌}
+use mathlib.Core.Path.{◌≡◌, refl, ap, ◌∙◌}
 use mathlib.Core.List.{List, [], ◌∷◌, ◌++◌, append-nil}
 use native.Mathlib.Omega.{arith}
-use lib.ListN.{length, drop, drop_of_length-le}
+use lib.ListN.{length, drop_of_length-le}
 use lib.Seq.{sets, sets-eq}
 use Rattle.field.specs.Field.{bytes_of}
 use Rattle.field.specs.Row.{row_of}
@@ -44,8 +44,3 @@ pub all_stored : (vs l : List ℕ) → length vs ≡ length l → sets l 0 vs �
 all_stored vs l e =
     let past : length l ≤ 0 + length vs = omega arith in
     sets-eq vs l 0 (omega arith) ∙ ap (λ (rest : List ℕ). vs ++ rest) (drop_of_length-le l past) ∙ append-nil vs
-
--- what is stored over the first of more bytes leaves those behind it
-pub first_stored : (vs l : List ℕ) (n : ℕ) → length vs ≡ n → n ≤ length l → vs ++ drop n l ≡ sets l 0 vs
-first_stored vs l n e h =
-    ap (λ (k : ℕ). vs ++ drop k l) (omega (arith, e)) ∙ sym (sets-eq vs l 0 (omega (arith, e, h)))

@@ -162,7 +162,7 @@ fn store_row(row: &[u8], out: &mut [u8]) -> u16
     if out.len() < ROW_SIZE {
         return 108;
     }
-    out[..ROW_SIZE].copy_from_slice(row);
+    field::copy(out, 0, row);
     0
 }
 

@@ -98,7 +98,7 @@ pub fn write(out: &mut [u8], at: usize, w: usize, x: u32)
 }
 
 // The bytes of s, from at.
-// Stays: a loop, and no `copy_from_slice`, for which the archive for C would need `memmove` from outside: a host without a C library links it.
+// Stays: a loop: with `copy_from_slice` the archive for C would need `memmove`, and a host without a C library couldn't link it.
 pub fn copy(out: &mut [u8], at: usize, s: &[u8])
     requires { at + length s.now ≤ length out.old }
     ensures { out.new ≡ sets out.old at s.now }
