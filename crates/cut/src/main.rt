@@ -1,22 +1,21 @@
 // cut initiator|responder strict|loose NORMAL REDUNDANT [OURS [CALLER ..]]: takes packets from two recorded links, and prints each step.
 #![tactic(auto)]
 
-ghost use Rattle.std.specs.Prelude.{◌≡◌, false, ◌+◌, ◌^◌, ◌≤◌, ◌<◌, [], length, IfOk};
-ghost use Rattle.window.specs.Window.{Within, low_of, failed_by, ToppedUp};
+ghost use Rattle.std.specs.Prelude.{◌≡◌, false, ◌+◌, ◌^◌, ◌≤◌, ◌<◌, [], length, IfSome};
+ghost use Rattle.window.specs.Window.{Within};
 ghost use Rattle.window.specs.MovedOnce.{RoomForTwo};
 ghost use Rattle.packet.specs.Sizes.{most_packet};
 ghost use Rattle.recording.specs.Printed.{most_line};
 ghost use Rattle.recording.specs.Progress.{Lies};
-ghost use Rattle.recording.specs.Whole.{BothToppedUp, TurnOf, PrintedToTheEnd, PrintedWhole, BothHaveRoom, BothMovedNoMore, Headed};
+ghost use Rattle.recording.specs.Whole.{WindowToppedUp, TurnOf, PrintedToTheEnd, PrintedWhole, BothHaveRoom, BothMovedNoMore, Headed};
 
 use arrayvec::ArrayVec;
 use links::State;
 use packet::MOST_PACKET;
 use recording::{MOST_LINE, Progress};
 use std::fs::File;
-use std::io;
 use std::io::{Read, Write};
-use window::{Refilled, Window};
+use window::Window;
 
 // The longest word that an argument is held against has fewer bytes.
 const MOST_WORD: usize = 16;
@@ -67,20 +66,39 @@ struct Told<'a> {
 }
 
 impl<'a, R: Read> Recorded<'a, R> {
-    // Tops a window up for a step; fails where the file can't be read.
+    // Tops a window up for steps that look at `most` bytes at the most; none where the file can't be read, which is said by then. It stays a
+    // call, since what a read answers is large, and few steps find a window that is low.
+    #[inline(never)]
+    fn refilled<E: Write>(
+        &mut self,
+        err: &mut E,
+        buffer: &mut [u8],
+        window: Window,
+        most: usize,
+    ) -> Option<Window>
+        requires { Within window (length buffer.old) × (most ≤ length buffer.old) }
+        ensures { IfSome result (λ up. WindowToppedUp most buffer.old window buffer.new up × Within up (length buffer.old)) }
+    {
+        let up = window::topped_up(&mut self.file, err, self.name, buffer, window, most);
+        up.last.got.ok()?;
+        Some(up.window)
+    }
+
+    // The same; a window that is not low is given back here.
     fn topped_up<E: Write>(
         &mut self,
         err: &mut E,
         buffer: &mut [u8],
         window: Window,
-    ) -> io::Result<Refilled>
-        requires { Within window (length buffer.old) × (most_packet ≤ length buffer.old) }
-        ensures { IfOk result (λ up. ToppedUp most_packet buffer.old window buffer.new up × Within up.window (length buffer.old)
-            × (low_of most_packet up.window ≡ false) × (failed_by up.last ≡ false)) }
+        most: usize,
+    ) -> Option<Window>
+        requires { Within window (length buffer.old) × (most ≤ length buffer.old) }
+        ensures { IfSome result (λ up. WindowToppedUp most buffer.old window buffer.new up × Within up (length buffer.old)) }
     {
-        let up = window::topped_up(&mut self.file, err, self.name, buffer, window, MOST_PACKET);
-        up.last.got?;
-        Ok(up)
+        if !window.low(most) {
+            return Some(window);
+        }
+        self.refilled(err, buffer, window, most)
     }
 }
 
@@ -91,25 +109,28 @@ fn both_topped_up<R: Read, E: Write>(
     normal: &mut [u8],
     redundant: &mut [u8],
     p: Progress,
-) -> io::Result<(Refilled, Refilled)>
+) -> Option<(Window, Window)>
     requires lies { Lies p (length normal.old) (length redundant.old) }
     requires both_have_room { BothHaveRoom (length normal.old) (length redundant.old) }
-    ensures { IfOk result (λ up. BothToppedUp normal.old redundant.old p normal.new redundant.new up.0 up.1
-        × Within up.0.window (length normal.old) × Within up.1.window (length redundant.old)) }
+    ensures { IfSome result (λ up. WindowToppedUp most_packet normal.old p.normal normal.new up.0
+        × WindowToppedUp most_packet redundant.old p.redundant redundant.new up.1
+        × Within up.0 (length normal.old) × Within up.1 (length redundant.old)) }
 {
-    let first = files.normal.topped_up(err, normal, p.normal)?;
-    let second = files.redundant.topped_up(err, redundant, p.redundant)?;
-    Ok((first, second))
+    let first = files.normal.topped_up(err, normal, p.normal, MOST_PACKET)?;
+    let second = files
+        .redundant
+        .topped_up(err, redundant, p.redundant, MOST_PACKET)?;
+    Some((first, second))
 }
 
 // Writes the rest of the text: with what was written before, it is what is printed for the bytes that were read of both files, by what the
 // steps go by (recording's proofs/Turns), which is here for the contract alone. No contract can say what is read from a file or written to
 // one: that the calls which read hand over a file's next bytes is all that stands between the files and the printed text. What `make_room`
 // and `written` write, their contracts say of a writer whose bytes are known.
-fn finish<W: Write, E: Write>(to: &mut W, err: &mut E, out: &[u8], told: Told) -> io::Result<()>
+fn finish<W: Write, E: Write>(to: &mut W, err: &mut E, out: &[u8], told: Told) -> Option<()>
     requires { PrintedWhole told.callers.now told.ours told.state out.now }
 {
-    text::written(to, err, out)
+    text::written(to, err, out).ok()
 }
 
 // Puts the last line, and finishes.
@@ -119,17 +140,17 @@ fn put_last<W: Write, E: Write, const N: usize>(
     out: &mut ArrayVec<u8, N>,
     handed_up: u64,
     told: Told,
-) -> io::Result<()>
+) -> Option<()>
     requires most_line_in_bounds { most_line ≤ N }
     requires printed_to_the_end { PrintedToTheEnd told.callers.now told.ours told.state out.old.items handed_up }
 {
-    text::make_room(to, err, out, MOST_LINE)?;
+    text::make_room(to, err, out, MOST_LINE).ok()?;
     text::put_end(out, handed_up);
     finish(to, err, out.as_slice(), told)
 }
 
-// One turn: room for a line, the windows topped up, and a step with its line. CUT-6: refills move no more bytes than they read. It fails
-// where a file could not be read, or what the out buffer held not be written, which is said by then.
+// One turn: room for a line, the windows topped up, and a step with its line. CUT-6: refills move no more bytes than they read. None where
+// a file could not be read, or what the out buffer held not be written, which is said by then.
 fn turn<R: Read, W: Write, E: Write, const N: usize>(
     files: &mut Files<R>,
     to: &mut W,
@@ -139,21 +160,21 @@ fn turn<R: Read, W: Write, E: Write, const N: usize>(
     out: &mut ArrayVec<u8, N>,
     told: Told,
     p: Progress,
-) -> io::Result<Progress>
+) -> Option<Progress>
     requires lies { Lies p (length normal.old) (length redundant.old) }
     requires both_have_room { BothHaveRoom (length normal.old) (length redundant.old) }
     requires most_line_in_bounds { most_line ≤ N }
     requires handed_up_bound { p.handed_up + 1 < 2 ^ 64 }
     requires both_moved_no_more { BothMovedNoMore p (length normal.old) (length redundant.old) }
-    ensures { IfOk result (λ after. TurnOf normal.old redundant.old told.entry.callers.now told.entry.ours p
+    ensures { IfSome result (λ after. TurnOf normal.old redundant.old told.entry.callers.now told.entry.ours p
         N out.old.items normal.new redundant.new out.new.items after
         × Lies after (length normal.old) (length redundant.old) × (after.handed_up ≤ p.handed_up + 1)
         × BothMovedNoMore after (length normal.old) (length redundant.old)) }
 {
-    text::make_room(to, err, out, MOST_LINE)?;
+    text::make_room(to, err, out, MOST_LINE).ok()?;
     let (first, second) = both_topped_up(files, err, normal, redundant, p)?;
-    let lent = p.windowed(first.window, second.window);
-    Ok(recording::advance(normal, redundant, out, told.callers, told.ours, lent))
+    let lent = p.windowed(first, second);
+    Some(recording::advance(normal, redundant, out, told.callers, told.ours, lent))
 }
 
 // Turns until a step answers 301 or 308, then the last line. A proved loop has to end, and nothing says that a file does, so the loop
@@ -166,7 +187,7 @@ fn cut_links<R: Read, W: Write, E: Write, const N: usize>(
     redundant: &mut [u8],
     out: &mut ArrayVec<u8, N>,
     told: Told,
-) -> io::Result<()>
+) -> Option<()>
     requires { Headed normal.old redundant.old N out.old.items }
 {
     let mut progress = Progress::start(told.state);
@@ -176,7 +197,7 @@ fn cut_links<R: Read, W: Write, E: Write, const N: usize>(
             return put_last(to, err, out, progress.handed_up, told);
         }
     }
-    Ok(())
+    Some(())
 }
 
 // The heading, then the turns.
@@ -188,7 +209,7 @@ fn print_all<R: Read, W: Write, E: Write, const N: usize>(
     redundant: &mut [u8],
     out: &mut ArrayVec<u8, N>,
     told: Told,
-) -> io::Result<()>
+) -> Option<()>
     requires both_have_room { BothHaveRoom (length normal.old) (length redundant.old) }
     requires most_line_in_bounds { most_line ≤ N }
     requires none_held { out.old.items ≡ [] }

@@ -1,6 +1,6 @@
 -- The digits of an id, one after the other.
 -- Assumes nothing.
-use Rattle.std.proofs.Common.{ℕ, ◌+◌, ◌*◌, ◌≤◌, ◌<◌, ◌≡◌, ◌^◌, ap, List, length, get_or, drop, arith}
+use Rattle.std.proofs.Common.{ℕ, ◌+◌, ◌*◌, ◌≤◌, ◌<◌, ◌≡◌, ◌^◌, ◌∙◌, ap, List, length, get_or, drop, arith}
 use Rattle.std.proofs.lemmas.Grind.{common_steps}
 use Rattle.std.specs.Prelude.{None, Some, option_and_then}
 use native.Mathlib.Nat.{pow-le-pow_right, pow-suc}
@@ -40,3 +40,6 @@ not_eight word n = simp (ne_eqb (length word) id_digits n)
 pub eight : (word : List ℕ) → length word ≡ id_digits → number_behind 0 word ≡ id_of word
 unfolding id_of
 eight word e = simp (eq-eqb (length word) id_digits e)
+
+pub digits : (word : List ℕ) → length word ≡ id_digits → (id : ℕ) → Some id ≡ number_behind 0 word → Some id ≡ id_of word
+digits word e id number = number ∙ eight word e

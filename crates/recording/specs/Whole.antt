@@ -95,6 +95,14 @@ PiecesAsWhole =
 
 -- What a program does in turn: windows topped up, a step, its line.
 
+-- A window alone, topped up for steps that look at so many bytes at the most, so that it is not low; no read failed.
+pub record WindowToppedUp (most : ℕ) (before : List ℕ) (w : Window) (after : List ℕ) (window : Window) : Type 0 where
+  pub refilled : Refilled
+  pub given : window ≡ refilled.window
+  pub up : ToppedUp most before w after refilled
+  pub high : low_of most window ≡ false
+  pub read : failed_by refilled.last ≡ false
+
 -- Both windows topped up, so that neither is low; no read failed.
 pub record BothToppedUp (normal redundant : List ℕ) (p : Progress) (normal_after redundant_after : List ℕ) (first second : Refilled)
     : Type 0 where

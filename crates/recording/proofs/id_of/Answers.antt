@@ -4,7 +4,7 @@ use Rattle.std.proofs.Common.{◌≡◌, ◌≤◌, ◌∙◌, ap, length, get_o
 use Rattle.std.specs.Prelude.{None, Some}
 use lib.ListN.{drop_of_length-le}
 use Rattle.recording.specs.Ids.{digit_value}
-use Rattle.recording.proofs.Ids.{value_below, low, no_digit, a_digit, not_eight, eight}
+use Rattle.recording.proofs.Ids.{value_below, low, no_digit, a_digit, not_eight, eight, digits}
 use Rattle.recording.proofs.id_of.Goals as goal
 
 pub returns-then-word-ne-ID_DIGITS : goal.returns-then-word-ne-ID_DIGITS
@@ -39,4 +39,4 @@ returns c =
     let word = c.args.word.now in
     let l = c.loop-byte in
     let past : length word ≤ l.byte-index = omega arith in
-    rw drop_of_length-le at l.invariant.1 ∙ eight word c.if-word-ne-ID_DIGITS.false
+    digits word c.if-word-ne-ID_DIGITS.false l.id (rw drop_of_length-le at l.invariant.1)
