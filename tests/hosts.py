@@ -27,10 +27,14 @@ class Hosts:
         return must(self.words(name, words), given)
 
 
+def x86_tool(name):
+    """The compiler, or a tool that comes with it, for x86-64."""
+    return name if os.uname().machine == "x86_64" else "x86_64-linux-gnu-" + name
+
+
 def x86_hosts(both, names=tuple(HOSTS)):
     """Hosts for x86-64, linked with the library as it is: on another processor they run under the emulator."""
-    compiler = "gcc" if os.uname().machine == "x86_64" else "x86_64-linux-gnu-gcc"
-    return Hosts(both, "x86-64", compiler, ["-static"], LIBRARY, emulator(), names)
+    return Hosts(both, "x86-64", x86_tool("gcc"), ["-static"], LIBRARY, emulator(), names)
 
 
 def make_library():
