@@ -99,6 +99,8 @@ pub fn write(out: &mut [u8], at: usize, w: usize, x: u32)
 
 // The bytes of s, from at.
 // Stays: a loop: with `copy_from_slice` the archive for C would need `memmove`, and a host without a C library couldn't link it.
+// It stands alone, where its loop has the registers that it needs: within a large caller it reads them from the stack at each turn.
+#[inline(never)]
 pub fn copy(out: &mut [u8], at: usize, s: &[u8])
     requires { at + length s.now ≤ length out.old }
     ensures { out.new ≡ sets out.old at s.now }
