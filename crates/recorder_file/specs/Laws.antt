@@ -91,7 +91,7 @@ used_or_stopped p s = by (record_of s)
 -- ---- bytes that follow are not looked at
 
 -- a reason, by the tests behind the first
-abbrev why_in : (mark kind wrong cut : Bool) → List ℕ
+abbrev pub why_in : (mark kind wrong cut : Bool) → List ℕ
 why_in mark kind wrong cut =
     when mark answer ascii ": wrong mark\n" else
     when kind answer ascii ": unknown kind\n" else
@@ -99,7 +99,7 @@ why_in mark kind wrong cut =
     when cut answer ascii ": cut record\n" else
     ascii ": no call of its slot and now directly before it\n"
 
-why_is : (l : List ℕ) → fields_size ≤ length l
+pub why_is : (l : List ℕ) → fields_size ≤ length l
     → why_bad l ≡ why_in (wrong_mark (fields_at l)) ((fields_at l).kind outside begin_kind to answer_kind) (wrong_length (fields_at l))
     (cut_record l (fields_at l))
 unfolding why_bad

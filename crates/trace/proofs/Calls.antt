@@ -22,15 +22,15 @@ use Rattle.trace.specs.Record.{begin_kind, receive_kind, send_kind, tick_kind}
 use Rattle.trace.specs.Call.{room, begin_widths, given_from, no_role, given_in, call_of, OthersGive104, NoBytesOfTickAndClose}
 
 module _ (kind : ℕ) (bytes : List ℕ) where
-  begins : kind ≡ begin_kind → Call.Begin (given_in bytes) ≡ call_of kind bytes
+  pub begins : kind ≡ begin_kind → Call.Begin (given_in bytes) ≡ call_of kind bytes
   unfolding call_of
   begins e = rw e
 
-  ticks : kind ≡ tick_kind → Call.Tick ≡ call_of kind bytes
+  pub ticks : kind ≡ tick_kind → Call.Tick ≡ call_of kind bytes
   unfolding call_of
   ticks e = rw e
 
-  closes : (kind ≡ begin_kind → ⊥) → (kind ≡ receive_kind → ⊥) → (kind ≡ send_kind → ⊥) → (kind ≡ tick_kind → ⊥) → Call.Close ≡ call_of kind bytes
+  pub closes : (kind ≡ begin_kind → ⊥) → (kind ≡ receive_kind → ⊥) → (kind ≡ send_kind → ⊥) → (kind ≡ tick_kind → ⊥) → Call.Close ≡ call_of kind bytes
   unfolding call_of
   closes n1 n2 n3 n4 = grind (arith, nat_tests)
 
