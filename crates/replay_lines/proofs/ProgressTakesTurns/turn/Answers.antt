@@ -1,7 +1,7 @@
 -- A turn of the replay is the machine's: at a whole record its call on the table and its line. Assumes nothing.
 use Rattle.std.proofs.Common.{sym, ◌∙◌, arith}
 use Rattle.trace.proofs.Records.{whole_fits}
-use Rattle.replay_lines.proofs.Lent.{whole_turn}
+use Rattle.replay_lines.proofs.Slots.{whole_turn}
 use Rattle.replay_lines.proofs.ProgressTakesTurns.turn.Goals as goal
 
 pub made_on-answer-requires : goal.made_on-answer-requires
@@ -16,4 +16,4 @@ pub returns-in-Whole : goal.returns-in-Whole
 returns-in-Whole g c =
     let a = c.args in
     whole_turn a.self.now a.s.now a.lent.now a.out.now.items c.in-Whole.r (sym c.record_of.ensures ∙ c.in-Whole.is)
-    c.requires.lent_len c.requires.goes c.made_on-answer.ensures c.put_line.ensures
+    c.requires.lent_len c.requires.goes (cc) c.made_on-answer.ensures c.put_line.ensures
