@@ -1,10 +1,10 @@
-// One connection call, on a record of its own, and its line: the answer, and the record after it.
+// One connection call, on a record of its own, alone and in the last slot of a table, and its line: the answer, and the record after it.
 // A call in the file: the record (connection_row/specs/Row), kind 1 (as in a trace), now 4, room 2 (the out buffer's length), size 2,
 // bytes.
 ghost use Rattle.std.specs.Prelude.{◌≡◌, ◌+◌, ◌≤◌, length, IfSome};
 ghost use Rattle.field.specs.Row.{fields_of};
 ghost use Rattle.connection_row.specs.Row.{row_size};
-ghost use Rattle.call_lines.specs.Call.{call_widths, call_fields_size, call_from, most_call_bytes, CallFits};
+ghost use Rattle.call_lines.specs.Call.{call_widths, call_fields_size, call_from, most_call_bytes, most_call_room, CallFits};
 ghost use Rattle.call_lines.specs.Call.{most_number_text, most_delivered_text, most_answer_text, most_call_text};
 
 use crate::one_record;
@@ -13,6 +13,7 @@ use calls::{Answer, Call, Called};
 use clock::Count;
 use connection::Connection;
 use connection_row::ROW_SIZE;
+use table::MOST_RECORDS;
 
 // The bytes of the record and of the fields before a call's own.
 const FIELDS_SIZE: usize = ROW_SIZE + 9;
@@ -22,6 +23,12 @@ pub const MOST_BYTES: usize = 1024;
 
 // The most room of an out buffer.
 pub const MOST_ROOM: usize = 1024;
+
+// The last slot.
+const SLOT: usize = MOST_RECORDS - 1;
+
+// A number that no call answers: alone and in the table, the call did not come to the same.
+const NOT_THE_SAME: u16 = u16::MAX;
 
 // The fields of a call in the file, behind its record.
 // Stays: the kind as it stands in the file, any byte, for `trace::call_of`.
@@ -47,7 +54,7 @@ fn call_from(s: &[u8]) -> OneCall
 }
 
 // Makes the call on a record by value, by the function that has its name.
-fn make_call(c: Connection, given: OneCall, bytes: &[u8], out: &mut [u8]) -> Called {
+fn by_its_name(c: Connection, given: OneCall, bytes: &[u8], out: &mut [u8]) -> Called {
     let OneCall { kind, now, .. } = given;
     match trace::call_of(kind, bytes) {
         Call::Begin(g) => calls::begin(c, g.role, g.settings, g.own.number, g.own.period, now, out),
@@ -56,6 +63,50 @@ fn make_call(c: Connection, given: OneCall, bytes: &[u8], out: &mut [u8]) -> Cal
         Call::Tick => calls::tick(c, now),
         Call::Close => calls::close(c),
     }
+}
+
+// Makes it on the record in the last slot of a table whose other slots are closed, by the owner's call.
+fn in_the_last_slot(c: Connection, given: OneCall, bytes: &[u8], out: &mut [u8]) -> Called {
+    let mut table = [Connection::all_zero(); MOST_RECORDS];
+    table[SLOT] = c;
+    let call = trace::call_of(given.kind, bytes);
+    let held = table::make_in(table, SLOT, call, given.now, bytes, out);
+    Called {
+        answer: held.answer,
+        next: held.table[SLOT],
+    }
+}
+
+// Whether two calls came to the same: each field of the answer, and each of the record after it.
+fn same(one: Called, other: Called) -> bool {
+    let mut rows = [[0; ROW_SIZE]; 2];
+    connection_row::put_row(&mut rows[0], one.next);
+    connection_row::put_row(&mut rows[1], other.next);
+    let (a, b) = (one.answer, other.answer);
+    rows[0] == rows[1]
+        && a.number == b.number
+        && a.released == b.released
+        && a.written == b.written
+        && a.delivered == b.delivered
+        && a.age == b.age
+}
+
+// Makes the call on a record in both ways, each with an out buffer of its own, which must come to the same.
+fn make_call(c: Connection, given: OneCall, bytes: &[u8], out: &mut [u8]) -> Called
+    requires { length out.old ≤ most_call_room }
+{
+    let mut lent = [text::BEFORE; MOST_ROOM];
+    let alone = &mut lent[..out.len()];
+    let named = by_its_name(c, given, bytes, alone);
+    let made = in_the_last_slot(c, given, bytes, out);
+    if same(made, named) && *out == *alone {
+        return made;
+    }
+    let answer = Answer {
+        number: NOT_THE_SAME,
+        ..made.answer
+    };
+    Called { answer, ..made }
 }
 
 // The answer's number, and whether the slot was released.
