@@ -26,6 +26,11 @@ pub const MOST_NUMBER: usize = 1 + MOST_DIGITS;
 // What each byte of a lent buffer is before it is written to.
 pub const BEFORE: u8 = 0xA5;
 
+// How many bytes have their digits made at once.
+const AT_ONCE: usize = 16;
+
+const DIGITS_AT_ONCE: usize = 2 * AT_ONCE;
+
 // Stays: the room asked for, in each contract: it is another for each word, and no fact of a text.
 
 // Puts bytes behind a text.
@@ -106,16 +111,33 @@ fn digit(n: u8) -> u8
     if n < 10 { b'0' + n } else { b'A' + (n - 10) }
 }
 
+// Two digits for each of so many bytes.
+fn digits_of(s: &[u8; AT_ONCE]) -> [u8; DIGITS_AT_ONCE]
+    ensures { result ≡ digits_of s.now }
+{
+    let mut digits = [0; DIGITS_AT_ONCE];
+    for (i, b) in s.iter().enumerate() {
+        digits[2 * i] = digit(b / 16);
+        digits[2 * i + 1] = digit(b % 16);
+    }
+    digits
+}
+
 // Bytes, two digits each.
+// Stays: so many bytes at once, by way of an array: with a push for each digit `single` took 1.8 times as long on steps.
 fn put_digits<const N: usize>(out: &mut ArrayVec<u8, N>, s: &[u8])
     requires { length out.old.items + 2 * length s.now ≤ N }
     ensures put { out.new.items ≡ out.old.items ++ digits_of s.now }
     ensures upper_bound { length out.new.items ≤ length out.old.items + 2 * length s.now }
 {
-    for b in s {
-        out.push(digit(b / 16));
-        out.push(digit(b % 16));
+    let mut rest = s;
+    while let Some((part, behind)) = rest.split_first_chunk::<AT_ONCE>() {
+        put(out, &digits_of(part));
+        rest = behind;
     }
+    let mut last = [0; AT_ONCE];
+    last[..rest.len()].copy_from_slice(rest);
+    put(out, &digits_of(&last)[..2 * rest.len()]);
 }
 
 // Bytes after a space; a dash for none.

@@ -1,4 +1,6 @@
 // What is said of an error on standard error: a name, a colon and the reason.
+ghost use Rattle.std.specs.Prelude.{◌≡◌, ◌≤◌, length, take};
+
 use crate::say;
 use arrayvec::ArrayVec;
 use std::io;
@@ -11,7 +13,10 @@ const MOST_REASON: usize = 256;
 const NUMBER: &[u8] = b" (os error ";
 
 // The text of an error without its number.
-fn without_number(text: &[u8]) -> &[u8] {
+fn without_number(text: &[u8]) -> &[u8]
+    ensures front { result.now ≡ take (length result.now) text.now }
+    ensures upper_bound { length result.now ≤ length text.now }
+{
     match text.windows(NUMBER.len()).position(|part| part == NUMBER) {
         Some(size) => &text[..size],
         None => text,

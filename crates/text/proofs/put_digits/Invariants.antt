@@ -1,9 +1,12 @@
 -- `text::put_digits`: the digits of the bytes that are left come behind what was put.
-use Rattle.std.proofs.Common.{◌≡◌, ◌++◌, ◌+◌, ◌*◌, ◌≤◌, length, drop}
+use Rattle.std.proofs.Common.{◌≡◌, ◌++◌, ◌+◌, ◌*◌, length}
 use Rattle.text.specs.Line.{digits_of}
 use Rattle.text.proofs.put_digits.Given as goal
 
-abbrev pub invariant-loop-b : goal.invariant-loop-b
-invariant-loop-b g l =
-    (length l.out.items ≡ length l.initial.out.items + 2 * l.b-index)
-    × (l.out.items ++ digits_of (drop l.b-index l.s) ≡ l.initial.out.items ++ digits_of l.s)
+abbrev pub invariant-loop-part : goal.invariant-loop-part
+invariant-loop-part g l =
+    (length l.out.items + 2 * length l.rest ≡ length l.initial.out.items + 2 * length l.s)
+    × (l.out.items ++ digits_of l.rest ≡ l.initial.out.items ++ digits_of l.s)
+
+abbrev pub decreases-loop-part : goal.decreases-loop-part
+decreases-loop-part g l = length l.rest
