@@ -1,7 +1,8 @@
 -- The words of a line as they are put: digits one byte after the other, and bytes that stayed, one byte after the other.
 -- Assumes nothing.
-use Rattle.std.proofs.Common.{ℕ, suc, ◌+◌, ◌*◌, ◌/◌, ◌%◌, ◌<◌, ◌≤◌, ◌≡◌, refl, sym, ap, ◌∙◌, Bool, cond, ◌&&◌, List, [], ◌∷◌, ◌++◌, append_assoc, append-nil, arith, length, take, drop, set, get_or, drop_of_length-le}
-use Rattle.std.proofs.lemmas.List.{take_more_set, take_all, length-set}
+use Rattle.std.proofs.Common.{ℕ, suc, ◌+◌, ◌*◌, ◌/◌, ◌%◌, ◌<◌, ◌≤◌, ◌≡◌, refl, sym, ap, ◌∙◌, Bool, cond, ◌&&◌, List, [], ◌∷◌, ◌++◌, append_assoc, append-nil, arith, length, take, drop, set, get_or, drop_of_length-le, ⊎_elim}
+use Rattle.std.proofs.lemmas.Bool.{cases_eq}
+use Rattle.std.proofs.lemmas.List.{take_more_set, take_all, length-set, length-append, take-append-drop, get_or-set_same, get_or-set_other}
 use lib.Seq.{drop-cons, take-append_seam}
 use Rattle.std.specs.List.{list_all}
 use lib.Dec.{eqb}
@@ -23,8 +24,8 @@ one_more_lem s digits i high low h room p q =
     let two : 2 * (i + 1) ≡ 2 * i + 1 + 1 = omega arith in
     let more : suc i ≡ i + 1 = omega arith in
     let put =
-        take_more_set (set digits (2 * i) high) (2 * i + 1) low (omega (arith, length-set digits (2 * i) high, room))
-        ∙ ap (λ (l : List ℕ). l ++ low ∷ []) (take_more_set digits (2 * i) high (omega (arith, room)))
+    take_more_set (set digits (2 * i) high) (2 * i + 1) low (omega (arith, length-set digits (2 * i) high, room))
+    ∙ ap (λ (l : List ℕ). l ++ low ∷ []) (take_more_set digits (2 * i) high (omega (arith, room)))
     in
     ap (λ (k : ℕ). take k (set (set digits (2 * i) high) (2 * i + 1) low) ++ rest) two
     ∙ ap (λ (l : List ℕ). l ++ rest) put
@@ -40,9 +41,39 @@ no_more_lem s digits i h full =
     ap (λ (l : List ℕ). take (2 * i) digits ++ digits_of l) (drop_of_length-le s {i = i} h) ∙ append-nil (take (2 * i) digits)
     ∙ take_all (2 * i) digits full
 
+-- the digits of the first bytes are made, each at the place of its byte
+abbrev pub MadeTo : List ℕ → List ℕ → List ℕ → ℕ → Type 0
+MadeTo s high low i = (k : ℕ) → k < i → (get_or high k 0 ≡ digit (get_or s k 0 / 16)) × (get_or low k 0 ≡ digit (get_or s k 0 % 16))
+
+pub made_more : (s high low : List ℕ) (i a b : ℕ) → i < length high → i < length low
+    → a ≡ digit (get_or s i 0 / 16) → b ≡ digit (get_or s i 0 % 16) → MadeTo s high low i → MadeTo s (set high i a) (set low i b) (i + 1)
+made_more s high low i a b h h' p q made k before = ⊎_elim here earlier (cases_eq k i)
+  where
+    here : k ≡ i → (get_or (set high i a) k 0 ≡ digit (get_or s k 0 / 16)) × (get_or (set low i b) k 0 ≡ digit (get_or s k 0 % 16))
+    here e = (
+      ap (λ (j : ℕ). get_or (set high i a) j 0) e ∙ get_or-set_same high i a 0 h ∙ p ∙ sym (ap (λ (j : ℕ). digit (get_or s j 0 / 16)) e),
+      ap (λ (j : ℕ). get_or (set low i b) j 0) e ∙ get_or-set_same low i b 0 h' ∙ q ∙ sym (ap (λ (j : ℕ). digit (get_or s j 0 % 16)) e),
+    )
+
+    earlier : (k ≡ i → ⊥) → (get_or (set high i a) k 0 ≡ digit (get_or s k 0 / 16)) × (get_or (set low i b) k 0 ≡ digit (get_or s k 0 % 16))
+    earlier other =
+        let was = made k (omega (arith, other)) in
+        (get_or-set_other high i k a 0 other ∙ was.0, get_or-set_other low i k b 0 other ∙ was.1)
+
 digits_append : (s behind : List ℕ) → digits_of (s ++ behind) ≡ digits_of s ++ digits_of behind
 digits_append [] behind = refl
 digits_append (b ∷ s) behind = ap (λ (l : List ℕ). digit (b / 16) ∷ digit (b % 16) ∷ l) (digits_append s behind)
+
+-- those of the first bytes and of the others
+pub digits_cut : (n : ℕ) (s first others : List ℕ) → first ≡ take n s → others ≡ drop n s → digits_of first ++ digits_of others ≡ digits_of s
+digits_cut n s first others p q =
+    sym (digits_append first others) ∙ ap (λ (l : List ℕ). digits_of (l ++ others)) p ∙ ap (λ (l : List ℕ). digits_of (take n s ++ l)) q
+    ∙ ap digits_of (take-append-drop n s)
+
+-- and as many where texts with them are the same
+pub as_many_digits : (before after s others : List ℕ) → after ++ digits_of others ≡ before ++ digits_of s → length after + 2 * length others ≡ length before + 2 * length s
+as_many_digits before after s others e =
+    omega (arith, ap (λ (l : List ℕ). length l) e, length-append after (digits_of others), length-append before (digits_of s), two_each others, two_each s)
 
 -- the digits of a front are the front of the digits
 pub digits_of_front : (s front behind : List ℕ) → front ≡ s → take (2 * length s) (digits_of (front ++ behind)) ≡ digits_of s

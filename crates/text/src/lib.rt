@@ -27,7 +27,7 @@ pub const MOST_NUMBER: usize = 1 + MOST_DIGITS;
 pub const BEFORE: u8 = 0xA5;
 
 // How many bytes have their digits made at once.
-const AT_ONCE: usize = 16;
+const AT_ONCE: usize = 32;
 
 const DIGITS_AT_ONCE: usize = 2 * AT_ONCE;
 
@@ -69,13 +69,18 @@ pub fn put_decimal<const N: usize>(out: &mut ArrayVec<u8, N>, n: u64)
 }
 
 // A number after a space.
+// Stays: one digit by itself: most numbers of a line have one, and one put for it and its space takes half the time of two.
 pub fn put_number<const N: usize>(out: &mut ArrayVec<u8, N>, n: u64)
     requires { length out.old.items + most_number ≤ N }
     ensures put { out.new.items ≡ out.old.items ++ number_word n }
     ensures upper_bound { length out.new.items ≤ length out.old.items + most_number }
 {
-    put(out, b" ");
-    put_decimal(out, n);
+    if n < 10 {
+        put(out, &[b' ', digit(n as u8)]);
+    } else {
+        put(out, b" ");
+        put_decimal(out, n);
+    }
 }
 
 // TRACE-13, CUT-1: the last line.
@@ -112,13 +117,20 @@ fn digit(n: u8) -> u8
 }
 
 // Two digits for each of so many bytes.
+// Stays: the high and the low digits by themselves first: each is then made for many bytes at once.
 fn digits_of(s: &[u8; AT_ONCE]) -> [u8; DIGITS_AT_ONCE]
     ensures { result ≡ digits_of s.now }
 {
-    let mut digits = [0; DIGITS_AT_ONCE];
+    let mut high = [0; AT_ONCE];
+    let mut low = [0; AT_ONCE];
     for (i, b) in s.iter().enumerate() {
-        digits[2 * i] = digit(b / 16);
-        digits[2 * i + 1] = digit(b % 16);
+        high[i] = digit(b / 16);
+        low[i] = digit(b % 16);
+    }
+    let mut digits = [0; DIGITS_AT_ONCE];
+    for place in 0..AT_ONCE {
+        digits[2 * place] = high[place];
+        digits[2 * place + 1] = low[place];
     }
     digits
 }
