@@ -68,8 +68,7 @@ pub fn put_decimal<const N: usize>(out: &mut ArrayVec<u8, N>, n: u64)
     put_decimal_in(out, n, MOST_DIGITS);
 }
 
-// A number after a space.
-// Stays: one digit by itself: most numbers of a line have one, and one put for it and its space takes half the time of two.
+// A number after a space: one of one digit, as most are, is put at once with it.
 pub fn put_number<const N: usize>(out: &mut ArrayVec<u8, N>, n: u64)
     requires { length out.old.items + most_number ≤ N }
     ensures put { out.new.items ≡ out.old.items ++ number_word n }
