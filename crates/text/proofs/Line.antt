@@ -89,11 +89,6 @@ pub some_bytes : (s : List ℕ) → (length s ≡ 0 → ⊥) → ascii " " ++ di
 some_bytes [] e = absurd (e refl)
 some_bytes (b ∷ s) e = refl
 
--- the test of each byte, one after the other
-pub each_before : (s : List ℕ) → list_all (λ (b : ℕ). eqb b byte_before) s ≡ all_before s
-each_before [] = refl
-each_before (b ∷ s) = ap (λ (rest : Bool). eqb b byte_before && rest) (each_before s)
-
 -- the words of what was written, by the part that was put and the answer whether the rest stayed
 pub written_words_lem : (lent : List ℕ) (written : ℕ) (part : List ℕ) (stayed : Bool) → part ≡ take written lent → stayed ≡ all_before (drop written lent)
     → bytes_word part ++ cond stayed [] (ascii " changed") ≡ written_words lent written

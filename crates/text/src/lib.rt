@@ -166,10 +166,16 @@ pub fn put_bytes<const N: usize>(out: &mut ArrayVec<u8, N>, s: &[u8])
 }
 
 // Whether the bytes of a lent buffer past those written are still what stood there before.
+// Stays: a loop, and no `all`, with which `single` took 1.8 times as long on messages.
 fn all_before(rest: &[u8]) -> bool
     ensures { result ≡ all_before rest.now }
 {
-    rest.iter().all(|b| *b == BEFORE)
+    for b in rest {
+        if *b != BEFORE {
+            return false;
+        }
+    }
+    true
 }
 
 // The bytes written at the start of a lent buffer, after a space, and where another byte of it changed the word for that.
