@@ -7,7 +7,7 @@ ghost use Rattle.window.specs.MovedOnce.{RoomForTwo};
 ghost use Rattle.packet.specs.Sizes.{most_packet};
 ghost use Rattle.recording.specs.Printed.{most_line};
 ghost use Rattle.recording.specs.Progress.{Lies};
-ghost use Rattle.recording.specs.Whole.{WindowToppedUp, TurnOf, PrintedToTheEnd, PrintedWhole, BothHaveRoom, BothMovedNoMore, Headed};
+ghost use Rattle.recording.specs.Whole.{WindowToppedUp, WindowsToppedUp, TurnOf, PrintedToTheEnd, PrintedWhole, BothHaveRoom, BothMovedNoMore, Headed};
 
 use arrayvec::ArrayVec;
 use links::State;
@@ -102,25 +102,24 @@ impl<'a, R: Read> Recorded<'a, R> {
     }
 }
 
-// Tops both windows up; the second one only where the first file could be read.
+// Tops both windows of a progress up; the second one only where the first file could be read.
 fn both_topped_up<R: Read, E: Write>(
     files: &mut Files<R>,
     err: &mut E,
     normal: &mut [u8],
     redundant: &mut [u8],
     p: Progress,
-) -> Option<(Window, Window)>
+) -> Option<Progress>
     requires lies { Lies p (length normal.old) (length redundant.old) }
     requires both_have_room { BothHaveRoom (length normal.old) (length redundant.old) }
-    ensures { IfSome result (λ up. WindowToppedUp most_packet normal.old p.normal normal.new up.0
-        × WindowToppedUp most_packet redundant.old p.redundant redundant.new up.1
-        × Within up.0 (length normal.old) × Within up.1 (length redundant.old)) }
+    ensures { IfSome result (λ lent. WindowsToppedUp normal.old redundant.old p normal.new redundant.new lent
+        × Lies lent (length normal.old) (length redundant.old)) }
 {
     let first = files.normal.topped_up(err, normal, p.normal, MOST_PACKET)?;
     let second = files
         .redundant
         .topped_up(err, redundant, p.redundant, MOST_PACKET)?;
-    Some((first, second))
+    Some(p.windowed(first, second))
 }
 
 // Writes the rest of the text: with what was written before, it is what is printed for the bytes that were read of both files, by what the
@@ -172,8 +171,7 @@ fn turn<R: Read, W: Write, E: Write, const N: usize>(
         × BothMovedNoMore after (length normal.old) (length redundant.old)) }
 {
     text::make_room(to, err, out, MOST_LINE).ok()?;
-    let (first, second) = both_topped_up(files, err, normal, redundant, p)?;
-    let lent = p.windowed(first, second);
+    let lent = both_topped_up(files, err, normal, redundant, p)?;
     Some(recording::advance(normal, redundant, out, told.callers, told.ours, lent))
 }
 

@@ -113,6 +113,13 @@ pub record BothToppedUp (normal redundant : List ℕ) (p : Progress) (normal_aft
   pub read_normal : failed_by first.last ≡ false
   pub read_redundant : failed_by second.last ≡ false
 
+-- The same, of the progress with these windows.
+pub record WindowsToppedUp (normal redundant : List ℕ) (p : Progress) (normal_after redundant_after : List ℕ) (lent : Progress) : Type 0 where
+  pub first : Refilled
+  pub second : Refilled
+  pub up : BothToppedUp normal redundant p normal_after redundant_after first second
+  pub with_them : lent ≡ windowed first.window second.window p
+
 -- One turn: room for a line; both windows topped up; a step over them, with its line put behind the text that
 -- is held, in an out buffer with this room.
 pub record TurnOf (normal redundant callers : List ℕ) (ours : ℕ) (p : Progress) (room : ℕ) (out : List ℕ)
