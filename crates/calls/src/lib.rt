@@ -326,7 +326,7 @@ fn begin_outcome(c: Connection, g: Given, now: Count, room: usize) -> Outcome
 }
 
 // What a call comes to, by its rule.
-// Inlined, as `make` is, into each caller: where the call is known, the match on it and the writing go, so that a tick costs no more than itself.
+// Inlined, as `make` is, into each caller: where the call is known, the match on it goes, and a tick costs no more than itself.
 #[inline(always)]
 fn outcome_of(c: Connection, call: Call, now: Count, lent: &[u8], room: usize) -> Outcome
     ensures { result ≡ outcome_of call c now lent.now room }

@@ -66,8 +66,8 @@ struct Told<'a> {
 }
 
 impl<'a, R: Read> Recorded<'a, R> {
-    // Tops a window up for steps that look at `most` bytes at the most; none where the file can't be read, which is said by then. It stays a
-    // call, since what a read answers is large, and few steps find a window that is low.
+    // Tops a window up for steps that look at `most` bytes at the most; none where the file can't be read, which is said by then. It stays
+    // a call, since what a read answers is large, and few steps find a window that is low.
     #[inline(never)]
     fn refilled<E: Write>(
         &mut self,

@@ -114,7 +114,8 @@ pub record BothToppedUp (normal redundant : List ℕ) (p : Progress) (normal_aft
   pub read_redundant : failed_by second.last ≡ false
 
 -- The same, of the progress with these windows.
-pub record WindowsToppedUp (normal redundant : List ℕ) (p : Progress) (normal_after redundant_after : List ℕ) (lent : Progress) : Type 0 where
+pub record WindowsToppedUp (normal redundant : List ℕ) (p : Progress) (normal_after redundant_after : List ℕ) (lent : Progress)
+    : Type 0 where
   pub first : Refilled
   pub second : Refilled
   pub up : BothToppedUp normal redundant p normal_after redundant_after first second
