@@ -21,7 +21,7 @@ def qualified(f):
 # The functions of one file: each begins with its `fn` line, its head ends with the line that opens the body, its body with the brace that stands below it.
 # Those of a public trait are public; one that it leaves to each `impl` has no body.
 def functions_of(path):
-    crate, file = path.split("/")[1], os.path.basename(path)[:-3]
+    crate, file = path.split("/")[1], "::".join(path[:-3].split("/")[3:])
     module, owner, trait, head, body, closing = "" if file in ("lib", "main") else file, "", False, None, None, ""
     for line in open(path).read().splitlines():
         if head is None:
@@ -46,14 +46,14 @@ def functions_of(path):
 
 
 def functions():
-    return {qualified(f): f for path in sorted(glob.glob("crates/*/src/*.rt")) for f in functions_of(path)}
+    return {qualified(f): f for path in sorted(glob.glob("crates/*/src/**/*.rt", recursive=True)) for f in functions_of(path)}
 
 
 # The traits of each type, by the `impl` blocks.
 @functools.cache
 def implemented():
     found = collections.defaultdict(set)
-    for path in glob.glob("crates/*/src/*.rt"):
+    for path in glob.glob("crates/*/src/**/*.rt", recursive=True):
         for trait, word in re.findall(r"^impl(?:<[^>]*>)? (\w+) for (\w+)", open(path).read(), re.M):
             found[word].add(trait)
     return found

@@ -6,14 +6,15 @@ ghost use Rattle.field.specs.Row.{fields_of};
 ghost use Rattle.connection_row.specs.Row.{row_size};
 ghost use Rattle.call_lines.specs.Call.{call_widths, call_fields_size, call_from, most_call_bytes, most_call_room, CallFits};
 ghost use Rattle.call_lines.specs.Call.{most_number_text, most_delivered_text, most_answer_text, most_call_text};
+ghost use Rattle.text.specs.Text.{left, room_of};
 
 use crate::one_record;
-use arrayvec::ArrayVec;
 use calls::{Answer, Call, Called};
 use clock::Count;
 use connection::Connection;
 use connection_row::ROW_SIZE;
 use table::MOST_RECORDS;
+use text::Room;
 
 // The bytes of the record and of the fields before a call's own.
 const FIELDS_SIZE: usize = ROW_SIZE + 9;
@@ -110,9 +111,10 @@ fn make_call(c: Connection, given: OneCall, bytes: &[u8], out: &mut [u8]) -> Cal
 }
 
 // The answer's number, and whether the slot was released.
-fn put_number<const N: usize>(out: &mut ArrayVec<u8, N>, number: u16, released: bool)
-    requires { length out.old.items + most_number_text ≤ N }
-    ensures { length out.new.items ≤ length out.old.items + most_number_text }
+fn put_number<O: Room>(out: &mut O, number: u16, released: bool)
+    requires { most_number_text ≤ left (O.held out.old) }
+    ensures upper_bound { left (O.held out.old) ≤ left (O.held out.new) + most_number_text }
+    ensures same { room_of (O.held out.new) ≡ room_of (O.held out.old) }
 {
     text::put_decimal(out, u64::from(number));
     text::put(out, if released { b" 1" } else { b" 0" });
@@ -128,9 +130,10 @@ fn delivered_of(bytes: &[u8], count: usize) -> &[u8]
 }
 
 // Where the part that is delivered starts in the message, 0 for an empty part, and its bytes.
-fn put_delivered<const N: usize>(out: &mut ArrayVec<u8, N>, bytes: &[u8], count: usize)
-    requires { (length bytes.now ≤ most_call_bytes) × (length out.old.items + most_delivered_text ≤ N) }
-    ensures { length out.new.items ≤ length out.old.items + most_delivered_text }
+fn put_delivered<O: Room>(out: &mut O, bytes: &[u8], count: usize)
+    requires { (length bytes.now ≤ most_call_bytes) × (most_delivered_text ≤ left (O.held out.old)) }
+    ensures upper_bound { left (O.held out.old) ≤ left (O.held out.new) + most_delivered_text }
+    ensures same { room_of (O.held out.new) ≡ room_of (O.held out.old) }
 {
     if count == 0 {
         text::put(out, b" 0 -");
@@ -142,14 +145,10 @@ fn put_delivered<const N: usize>(out: &mut ArrayVec<u8, N>, bytes: &[u8], count:
 
 // The words of an answer: its number, whether the slot was released, what was written, what is delivered, the age.
 // Stays: `bytes` and `lent` side by side, and `CallFits` of both: the bytes of a call and its out buffer are two things.
-pub fn put_answer<const N: usize>(
-    out: &mut ArrayVec<u8, N>,
-    answer: Answer,
-    bytes: &[u8],
-    lent: &[u8],
-)
-    requires { CallFits bytes.now lent.now × (length out.old.items + most_answer_text ≤ N) }
-    ensures { length out.new.items ≤ length out.old.items + most_answer_text }
+pub fn put_answer<O: Room>(out: &mut O, answer: Answer, bytes: &[u8], lent: &[u8])
+    requires { CallFits bytes.now lent.now × (most_answer_text ≤ left (O.held out.old)) }
+    ensures upper_bound { left (O.held out.old) ≤ left (O.held out.new) + most_answer_text }
+    ensures same { room_of (O.held out.new) ≡ room_of (O.held out.old) }
 {
     put_number(out, answer.number, answer.released);
     text::put_written(out, lent, answer.written);
@@ -158,9 +157,10 @@ pub fn put_answer<const N: usize>(
 }
 
 // The line of a call.
-fn put_line<const N: usize>(out: &mut ArrayVec<u8, N>, made: Called, bytes: &[u8], lent: &[u8])
-    requires { CallFits bytes.now lent.now × (length out.old.items + most_call_text ≤ N) }
-    ensures { length out.new.items ≤ length out.old.items + most_call_text }
+fn put_line<O: Room>(out: &mut O, made: Called, bytes: &[u8], lent: &[u8])
+    requires { CallFits bytes.now lent.now × (most_call_text ≤ left (O.held out.old)) }
+    ensures upper_bound { left (O.held out.old) ≤ left (O.held out.new) + most_call_text }
+    ensures same { room_of (O.held out.new) ≡ room_of (O.held out.old) }
 {
     put_answer(out, made.answer, bytes, lent);
     one_record::put_record(out, made.next);
@@ -168,9 +168,10 @@ fn put_line<const N: usize>(out: &mut ArrayVec<u8, N>, made: Called, bytes: &[u8
 }
 
 // The call at the front of s, if it is there whole, and how many bytes it takes.
-pub fn call_at<const N: usize>(s: &[u8], out: &mut ArrayVec<u8, N>) -> Option<usize>
-    requires { length out.old.items + most_call_text ≤ N }
-    ensures text { length out.new.items ≤ length out.old.items + most_call_text }
+pub fn call_at<O: Room>(s: &[u8], out: &mut O) -> Option<usize>
+    requires { most_call_text ≤ left (O.held out.old) }
+    ensures text { left (O.held out.old) ≤ left (O.held out.new) + most_call_text }
+    ensures same { room_of (O.held out.new) ≡ room_of (O.held out.old) }
     ensures used { IfSome result (λ used. used ≤ length s.now) }
 {
     let (fields, rest) = s.split_at_checked(FIELDS_SIZE)?;

@@ -8,16 +8,17 @@ ghost use Rattle.lent_table.specs.LentTable.{records};
 ghost use Rattle.call_lines.specs.Record.{most_record_text};
 ghost use Rattle.call_lines.specs.Call.{CallFits};
 ghost use Rattle.call_lines.specs.Table.{table_widths, table_fields_size, table_from, most_table_text};
+ghost use Rattle.text.specs.Text.{left, room_of};
 
 use crate::one_call::{MOST_BYTES, MOST_ROOM};
 use crate::{one_call, one_record};
-use arrayvec::ArrayVec;
 use calls::Answer;
 use clock::Count;
 use connection::Connection;
 use connection_row::ROW_SIZE;
 use lent_table::RECORDS;
 use table::MOST_RECORDS;
+use text::Room;
 
 // The bytes of the fields before the records.
 const FIELDS_SIZE: usize = 20;
@@ -104,9 +105,10 @@ fn make_call(
 }
 
 // The records, one after the other.
-fn put_records<const N: usize>(out: &mut ArrayVec<u8, N>, table: &[Connection])
-    requires { length out.old.items + length table.now * most_record_text ≤ N }
-    ensures { length out.new.items ≤ length out.old.items + length table.now * most_record_text }
+fn put_records<O: Room>(out: &mut O, table: &[Connection])
+    requires { length table.now * most_record_text ≤ left (O.held out.old) }
+    ensures upper_bound { left (O.held out.old) ≤ left (O.held out.new) + length table.now * most_record_text }
+    ensures same { room_of (O.held out.new) ≡ room_of (O.held out.old) }
 {
     for c in table {
         one_record::put_record(out, *c);
@@ -114,16 +116,11 @@ fn put_records<const N: usize>(out: &mut ArrayVec<u8, N>, table: &[Connection])
 }
 
 // The line of a call.
-fn put_line<const N: usize>(
-    out: &mut ArrayVec<u8, N>,
-    answer: Answer,
-    table: &[Connection],
-    bytes: &[u8],
-    lent: &[u8],
-)
+fn put_line<O: Room>(out: &mut O, answer: Answer, table: &[Connection], bytes: &[u8], lent: &[u8])
     requires call_fits { CallFits bytes.now lent.now × (length table.now ≤ records) }
-    requires most_table_text_in_bounds { length out.old.items + most_table_text ≤ N }
-    ensures { length out.new.items ≤ length out.old.items + most_table_text }
+    requires most_table_text_in_bounds { most_table_text ≤ left (O.held out.old) }
+    ensures upper_bound { left (O.held out.old) ≤ left (O.held out.new) + most_table_text }
+    ensures same { room_of (O.held out.new) ≡ room_of (O.held out.old) }
 {
     one_call::put_answer(out, answer, bytes, lent);
     put_records(out, table);
@@ -131,9 +128,10 @@ fn put_line<const N: usize>(
 }
 
 // The call at the front of s, if it is there whole, and how many bytes it takes.
-pub fn table_at<const N: usize>(s: &[u8], out: &mut ArrayVec<u8, N>) -> Option<usize>
-    requires { length out.old.items + most_table_text ≤ N }
-    ensures text { length out.new.items ≤ length out.old.items + most_table_text }
+pub fn table_at<O: Room>(s: &[u8], out: &mut O) -> Option<usize>
+    requires { most_table_text ≤ left (O.held out.old) }
+    ensures text { left (O.held out.old) ≤ left (O.held out.new) + most_table_text }
+    ensures same { room_of (O.held out.new) ≡ room_of (O.held out.old) }
     ensures used { IfSome result (λ used. used ≤ length s.now) }
 {
     let (fields, rest) = s.split_at_checked(FIELDS_SIZE)?;

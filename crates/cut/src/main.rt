@@ -199,6 +199,7 @@ fn cut_links<R: Read, W: Write, E: Write, const N: usize>(
 }
 
 // The heading, then the turns.
+#[tactic(auto, unfolding(text::specs::Text::left))]
 fn print_all<R: Read, W: Write, E: Write, const N: usize>(
     files: &mut Files<R>,
     to: &mut W,
@@ -290,6 +291,7 @@ fn usage(rt: &HostRuntime) {
 }
 
 // One line that says which argument is no id.
+#[tactic(auto, unfolding(text::specs::Text::left))]
 fn say_no_id(rt: &HostRuntime, i: usize) {
     let mut line = ArrayVec::<u8, MOST_SAID>::new();
     text::put(&mut line, b"cut: argument ");

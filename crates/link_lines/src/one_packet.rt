@@ -4,9 +4,10 @@
 ghost use Rattle.std.specs.Prelude.{◌≡◌, ◌+◌, ◌≤◌, length, IfSome};
 ghost use Rattle.field.specs.Row.{fields_of};
 ghost use Rattle.link_lines.specs.Packet.{packet_given_widths, packet_fields_size, packet_from, most_packet_room, most_packet_text};
+ghost use Rattle.text.specs.Text.{left, room_of};
 
-use arrayvec::ArrayVec;
 use packet_writing::Written;
+use text::Room;
 
 // The bytes of the fields before the user data.
 const FIELDS_SIZE: usize = 10;
@@ -59,14 +60,10 @@ impl Packet {
 }
 
 // That packet, and its line.
-fn put_packet<const N: usize>(
-    out: &mut ArrayVec<u8, N>,
-    given: Packet,
-    data: &[u8],
-    lent: &mut [u8],
-)
-    requires { (length lent.old ≤ most_packet_room) × (length out.old.items + most_packet_text ≤ N) }
-    ensures { length out.new.items ≤ length out.old.items + most_packet_text }
+fn put_packet<O: Room>(out: &mut O, given: Packet, data: &[u8], lent: &mut [u8])
+    requires { (length lent.old ≤ most_packet_room) × (most_packet_text ≤ left (O.held out.old)) }
+    ensures upper_bound { left (O.held out.old) ≤ left (O.held out.new) + most_packet_text }
+    ensures same { room_of (O.held out.new) ≡ room_of (O.held out.old) }
 {
     let made = given.write(data, lent);
     text::put_decimal(out, u64::from(made.answer));
@@ -75,9 +72,10 @@ fn put_packet<const N: usize>(
 }
 
 // The packet at the front of s, if it is there whole, and how many bytes it takes.
-pub fn packet_at<const N: usize>(s: &[u8], out: &mut ArrayVec<u8, N>) -> Option<usize>
-    requires { length out.old.items + most_packet_text ≤ N }
-    ensures text { length out.new.items ≤ length out.old.items + most_packet_text }
+pub fn packet_at<O: Room>(s: &[u8], out: &mut O) -> Option<usize>
+    requires { most_packet_text ≤ left (O.held out.old) }
+    ensures text { left (O.held out.old) ≤ left (O.held out.new) + most_packet_text }
+    ensures same { room_of (O.held out.new) ≡ room_of (O.held out.old) }
     ensures used { IfSome result (λ used. used ≤ length s.now) }
 {
     let (fields, rest) = s.split_at_checked(FIELDS_SIZE)?;

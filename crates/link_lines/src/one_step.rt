@@ -6,9 +6,10 @@ ghost use Rattle.std.specs.Prelude.{◌≡◌, ◌+◌, ◌≤◌, length, IfSom
 ghost use Rattle.field.specs.Row.{fields_of};
 ghost use Rattle.link_lines.specs.Step.{step_widths, step_fields_size, step_from, most_link, NoLonger};
 ghost use Rattle.link_lines.specs.Step.{most_state_text, most_place_text, most_data_text, most_taken_text, most_step_text};
+ghost use Rattle.text.specs.Text.{left, room_of};
 
-use arrayvec::ArrayVec;
 use links::{State, Taken};
+use text::Room;
 
 // The bytes of the fields before the links' own.
 const FIELDS_SIZE: usize = 21;
@@ -83,9 +84,10 @@ impl Step {
 }
 
 // The state after a step: the links that are up, the first packet, the last number.
-fn put_state<const N: usize>(out: &mut ArrayVec<u8, N>, state: State)
-    requires { length out.old.items + most_state_text ≤ N }
-    ensures { length out.new.items ≤ length out.old.items + most_state_text }
+fn put_state<O: Room>(out: &mut O, state: State)
+    requires { most_state_text ≤ left (O.held out.old) }
+    ensures upper_bound { left (O.held out.old) ≤ left (O.held out.new) + most_state_text }
+    ensures same { room_of (O.held out.new) ≡ room_of (O.held out.old) }
 {
     text::put(out, b"state");
     text::put_number(out, u64::from(state.normal_up));
@@ -95,9 +97,10 @@ fn put_state<const N: usize>(out: &mut ArrayVec<u8, N>, state: State)
 }
 
 // Version, application type and start of what is handed up, and the end of the line.
-fn put_place<const N: usize>(out: &mut ArrayVec<u8, N>, taken: Taken)
-    requires { length out.old.items + most_place_text ≤ N }
-    ensures { length out.new.items ≤ length out.old.items + most_place_text }
+fn put_place<O: Room>(out: &mut O, taken: Taken)
+    requires { most_place_text ≤ left (O.held out.old) }
+    ensures upper_bound { left (O.held out.old) ≤ left (O.held out.new) + most_place_text }
+    ensures same { room_of (O.held out.new) ≡ room_of (O.held out.old) }
 {
     text::put_number(out, u64::from(taken.version));
     text::put_number(out, u64::from(taken.application));
@@ -106,9 +109,10 @@ fn put_place<const N: usize>(out: &mut ArrayVec<u8, N>, taken: Taken)
 }
 
 // The user data that is handed up, and the end of the line.
-fn put_data<const N: usize>(out: &mut ArrayVec<u8, N>, data: &[u8])
-    requires { length out.old.items + most_data_text (length «data».now) ≤ N }
-    ensures { length out.new.items ≤ length out.old.items + most_data_text (length «data».now) }
+fn put_data<O: Room>(out: &mut O, data: &[u8])
+    requires { most_data_text (length «data».now) ≤ left (O.held out.old) }
+    ensures upper_bound { left (O.held out.old) ≤ left (O.held out.new) + most_data_text (length «data».now) }
+    ensures same { room_of (O.held out.new) ≡ room_of (O.held out.old) }
 {
     text::put(out, b"data");
     text::put_bytes(out, data);
@@ -116,9 +120,10 @@ fn put_data<const N: usize>(out: &mut ArrayVec<u8, N>, data: &[u8])
 }
 
 // The lines of a step: that of `cut`, then the state, version, application type and start, then the user data.
-fn put_taken<const N: usize>(out: &mut ArrayVec<u8, N>, taken: Taken, data: &[u8])
-    requires { length out.old.items + most_taken_text (length «data».now) ≤ N }
-    ensures { length out.new.items ≤ length out.old.items + most_taken_text (length «data».now) }
+fn put_taken<O: Room>(out: &mut O, taken: Taken, data: &[u8])
+    requires { most_taken_text (length «data».now) ≤ left (O.held out.old) }
+    ensures upper_bound { left (O.held out.old) ≤ left (O.held out.new) + most_taken_text (length «data».now) }
+    ensures same { room_of (O.held out.new) ≡ room_of (O.held out.old) }
 {
     recording::put_line(out, taken);
     put_state(out, taken.state);
@@ -177,9 +182,10 @@ impl<'a> Lent<'a> {
 }
 
 // The step in both ways, and its lines.
-fn put_step<const N: usize>(out: &mut ArrayVec<u8, N>, lent: Lent)
-    requires { NoLonger lent.normal.now lent.redundant.now × (length out.old.items + most_step_text ≤ N) }
-    ensures { length out.new.items ≤ length out.old.items + most_step_text }
+fn put_step<O: Room>(out: &mut O, lent: Lent)
+    requires { NoLonger lent.normal.now lent.redundant.now × (most_step_text ≤ left (O.held out.old)) }
+    ensures upper_bound { left (O.held out.old) ≤ left (O.held out.new) + most_step_text }
+    ensures same { room_of (O.held out.new) ≡ room_of (O.held out.old) }
 {
     let (taken, data) = lent.take();
     put_taken(out, taken, data);
@@ -188,9 +194,10 @@ fn put_step<const N: usize>(out: &mut ArrayVec<u8, N>, lent: Lent)
 }
 
 // The step at the front of s, if it is there whole, and how many bytes it takes.
-pub fn step_at<const N: usize>(s: &[u8], out: &mut ArrayVec<u8, N>) -> Option<usize>
-    requires { length out.old.items + most_step_text ≤ N }
-    ensures text { length out.new.items ≤ length out.old.items + most_step_text }
+pub fn step_at<O: Room>(s: &[u8], out: &mut O) -> Option<usize>
+    requires { most_step_text ≤ left (O.held out.old) }
+    ensures text { left (O.held out.old) ≤ left (O.held out.new) + most_step_text }
+    ensures same { room_of (O.held out.new) ≡ room_of (O.held out.old) }
     ensures used { IfSome result (λ used. used ≤ length s.now) }
 {
     let (fields, rest) = s.split_at_checked(FIELDS_SIZE)?;

@@ -5,11 +5,12 @@ ghost use Rattle.std.specs.Prelude.{◌≡◌, ◌+◌, ◌≤◌, length, IfSom
 ghost use Rattle.field.specs.Row.{fields_of};
 ghost use Rattle.message_lines.specs.Message.{most_message_room};
 ghost use Rattle.message_lines.specs.Write.{write_widths, write_fields_size, write_from, most_write_text};
+ghost use Rattle.text.specs.Text.{left, room_of};
 
 use crate::one_message::MOST_ROOM;
-use arrayvec::ArrayVec;
 use clock::{Centred, Count, Offset};
 use message::{Header, Message, Tail};
+use text::Room;
 
 // The bytes of the fields before the data.
 const FIELDS_SIZE: usize = 36;
@@ -80,9 +81,10 @@ impl Write {
 }
 
 // The line of a message that was written: how many bytes, and the bytes.
-fn put_write<const N: usize>(out: &mut ArrayVec<u8, N>, written: usize, lent: &[u8])
-    requires { (length lent.now ≤ most_message_room) × (length out.old.items + most_write_text ≤ N) }
-    ensures { length out.new.items ≤ length out.old.items + most_write_text }
+fn put_write<O: Room>(out: &mut O, written: usize, lent: &[u8])
+    requires { (length lent.now ≤ most_message_room) × (most_write_text ≤ left (O.held out.old)) }
+    ensures upper_bound { left (O.held out.old) ≤ left (O.held out.new) + most_write_text }
+    ensures same { room_of (O.held out.new) ≡ room_of (O.held out.old) }
 {
     text::put_decimal(out, written as u64);
     text::put_written(out, lent, written);
@@ -90,9 +92,10 @@ fn put_write<const N: usize>(out: &mut ArrayVec<u8, N>, written: usize, lent: &[
 }
 
 // The message at the front of s, if it is there whole, and how many bytes it takes.
-pub fn write_at<const N: usize>(s: &[u8], out: &mut ArrayVec<u8, N>) -> Option<usize>
-    requires { length out.old.items + most_write_text ≤ N }
-    ensures text { length out.new.items ≤ length out.old.items + most_write_text }
+pub fn write_at<O: Room>(s: &[u8], out: &mut O) -> Option<usize>
+    requires { most_write_text ≤ left (O.held out.old) }
+    ensures text { left (O.held out.old) ≤ left (O.held out.new) + most_write_text }
+    ensures same { room_of (O.held out.new) ≡ room_of (O.held out.old) }
     ensures used { IfSome result (λ used. used ≤ length s.now) }
 {
     let (fields, rest) = s.split_at_checked(FIELDS_SIZE)?;

@@ -4,4 +4,5 @@ pub mod Agree
 pub mod Whole
 pub mod Quiet
 pub mod Loop
+pub mod OnePiece
 pub mod Between

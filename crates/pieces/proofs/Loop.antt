@@ -27,24 +27,23 @@ module _ {State : Type 0} (m : Machine State) (laws : Lawful m) (counted : State
     reached = reaches_first m laws size buffer p₀ w₀ lent₀ out₀;
   }
 
-  pub keeps_last : {lent out : List ℕ} {w : Window} {p : State} → Keeps lent out w p → (left : ℕ) → left + length out ≡ size
+  pub keeps_last : {lent out : List ℕ} {w : Window} {p : State} → Keeps lent out w p → (left : ℕ) → left ≡ size - length out
       → {waiting : Bool} → waiting ≡ waits m (m.stopped p) w left → waiting ≡ true → AdvancedTo m size buffer p₀ w₀ lent₀ out₀ lent out p w
   keeps_last {lent} {out} {w} {p} kept left room is waits_now =
-      let same : size - length out ≡ left = omega (arith, room) in
-      advanced_to m laws size buffer p₀ w₀ lent₀ out₀ kept.reached (ap (waits m (m.stopped p) w) same ∙ sym is ∙ waits_now)
+      advanced_to m laws size buffer p₀ w₀ lent₀ out₀ kept.reached (ap (waits m (m.stopped p) w) (sym room) ∙ sym is ∙ waits_now)
 
   -- a turn on the bytes at hand, with so much room left
-  module _ {lent out : List ℕ} {w : Window} {p : State} (kept : Keeps lent out w p) (left : ℕ) (room : left + length out ≡ size)
+  module _ {lent out : List ℕ} {w : Window} {p : State} (kept : Keeps lent out w p) (left : ℕ) (room : left ≡ size - length out)
       {waiting : Bool} (is : waiting ≡ waits m (m.stopped p) w left) (not : waiting ≡ false) (s : List ℕ) (hand : s ≡ unread buffer w) where
     goes : waits m (m.stopped p) w (size - length out) ≡ false
-    goes = ap (waits m (m.stopped p) w) (omega (arith, room)) ∙ sym is ∙ not
+    goes = ap (waits m (m.stopped p) w) (sym room) ∙ sym is ∙ not
 
     few : length s ≤ left_of w
     few = subst (λ (l : List ℕ). length l ≤ left_of w) (sym hand) (at_most_left buffer w)
 
     -- what it asks for
     pub asks : (lent_size : ℕ) → length lent₀ ≡ lent_size → counted p₀ + for_each * left_of w₀ < 2 ^ 64
-        → (m.stopped p ≡ false) × (counted p + for_each * length s < 2 ^ 64) × (length lent ≡ lent_size) × (length out + m.most_text ≤ size)
+        → (m.stopped p ≡ false) × (counted p + for_each * length s < 2 ^ 64) × (length lent ≡ lent_size) × (m.most_text ≤ left)
     asks lent_size same bound = (
       not_stopped m (m.stopped p) w (size - length out) goes,
       omega (arith, mul-le-mul_left for_each few, kept.counts, bound),

@@ -2,3 +2,4 @@
 pub mod Machine
 pub mod Pieces
 pub mod Quiet
+pub mod InPlace

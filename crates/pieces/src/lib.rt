@@ -2,18 +2,19 @@
 #![tactic(auto)]
 
 ghost use Rattle.std.specs.Prelude.{◌≡◌, ℕ, true, false, ◌+◌, ◌*◌, ◌^◌, ◌≤◌, ◌<◌, List, length, OnOk, OnSome};
+ghost use Rattle.text.specs.Text.{put, left, room_of};
 ghost use Rattle.window.specs.Window.{empty_window, left_of};
 ghost use Rattle.pieces.specs.Machine.{Machine, Lawful};
-ghost use Rattle.pieces.specs.Pieces.{waits, TurnTaken, AdvancedTo, PieceOf, PrintedWhole};
+ghost use Rattle.pieces.specs.Pieces.{waits, piece_from, TurnTaken, AdvancedTo, PieceOf, PrintedWhole};
 ghost use Rattle.pieces.specs.Quiet.{Quiet, PrintedAtOnce};
 
-use arrayvec::ArrayVec;
 use std::io;
 use std::io::{Read, Write};
-use window::Input;
+use text::{Holds, Room};
+use window::{AtHand, Input};
 
-// How far a program is that takes turns on the bytes of a file, with room for a text of so many bytes: the state of a machine.
-pub trait TakesTurns<const N: usize> {
+// How far a program is that takes turns on the bytes of a file, with their text put into a room: the state of a machine.
+pub trait TakesTurns<O: Room> {
     ghost machine: { Machine Self };
 
     // How many bytes the buffer has that is lent to the turns.
@@ -38,12 +39,14 @@ pub trait TakesTurns<const N: usize> {
         ensures { result ≡ machine.stopped self.now };
 
     // A turn on the bytes at hand, with its text put behind `out`: answers how many of them it used up.
-    fn turn(&mut self, s: &[u8], lent: &mut [u8], out: &mut ArrayVec<u8, N>) -> usize
+    fn turn(&mut self, s: &[u8], lent: &mut [u8], out: &mut O) -> usize
         requires goes { machine.stopped self.old ≡ false }
         requires counts { counted self.old + for_each * length s.now < 2 ^ 64 }
         requires lent_len { length lent.old ≡ lent_size }
-        requires room { length out.old.items + machine.most_text ≤ N }
-        ensures { TurnTaken (machine.turn self.old s.now) self.new lent.old lent.new out.old.items out.new.items result };
+        requires room { machine.most_text ≤ left (O.held out.old) }
+        ensures taken { TurnTaken (machine.turn self.old s.now) self.new lent.old lent.new
+            (O.held out.old).text (O.held out.new).text result }
+        ensures put { O.held out.new ≡ put (machine.turn self.old s.now).text (O.held out.old) };
 
     ghost lawful: { Lawful machine };
 
@@ -56,39 +59,38 @@ pub trait TakesTurns<const N: usize> {
 
 // Whether it waits: it has stopped, or is to be refilled, or has no room for what a turn prints.
 #[tactic(auto, unfolding(crate::specs::Pieces::waits))]
-fn waits<const N: usize, const B: usize, M: TakesTurns<N>>(
-    state: &M,
-    input: &Input<B>,
-    room: usize,
-) -> bool
-    ensures { result ≡ waits M.machine (M.machine.stopped state.now) input.now.window room }
+fn waits<O: Room, I: AtHand, M: TakesTurns<O>>(state: &M, input: &I, room: usize) -> bool
+    ensures { result ≡ waits M.machine (M.machine.stopped state.now) (I.window input.now) room }
 {
     state.stopped() || input.low(M::MOST_SEEN) || room < M::MOST_TEXT
 }
 
 // Turns on the bytes at hand until it waits.
-pub fn advance<const N: usize, const B: usize, M: TakesTurns<N>>(
+pub fn advance<O: Room, I: AtHand, M: TakesTurns<O>>(
     state: &mut M,
-    input: &mut Input<B>,
+    input: &mut I,
     lent: &mut [u8],
-    out: &mut ArrayVec<u8, N>,
+    out: &mut O,
 )
-    requires counts { M.counted state.old + M.for_each * left_of input.old.window < 2 ^ 64 }
+    requires counts { M.counted state.old + M.for_each * left_of (I.window input.old) < 2 ^ 64 }
     requires lent_len { length lent.old ≡ M.lent_size }
-    ensures advanced { AdvancedTo M.machine N input.old.buffer state.old input.old.window lent.old out.old.items
-        lent.new out.new.items state.new input.new.window }
-    ensures buffer { input.new.buffer ≡ input.old.buffer }
-    ensures counts { M.counted state.new + M.for_each * left_of input.new.window
-        ≤ M.counted state.old + M.for_each * left_of input.old.window }
+    ensures advanced { AdvancedTo M.machine (O.held out.old).size (I.buffer input.old) state.old (I.window input.old)
+        lent.old (O.held out.old).text lent.new (O.held out.new).text state.new (I.window input.new) }
+    ensures put { O.held out.new ≡ put
+        (piece_from M.machine (left (O.held out.old)) (I.buffer input.old) state.old (I.window input.old) lent.old).text (O.held out.old) }
+    ensures same { room_of (O.held out.new) ≡ room_of (O.held out.old) }
+    ensures buffer { I.buffer input.new ≡ I.buffer input.old }
+    ensures counts { M.counted state.new + M.for_each * left_of (I.window input.new)
+        ≤ M.counted state.old + M.for_each * left_of (I.window input.old) }
 {
-    while !waits(state, input, out.remaining_capacity()) {
+    while !waits(state, input, out.left()) {
         let used = state.turn(input.unread(), lent, out);
         input.use_up(used);
     }
 }
 
 // One piece of a file: room for what a turn prints, the input topped up, and as many turns as it holds bytes for.
-pub fn piece<const N: usize, const B: usize, M: TakesTurns<N>, R: Read, W: Write, E: Write>(
+pub fn piece<O: Room, const B: usize, M: TakesTurns<O>, R: Read, W: Write, E: Write>(
     state: &mut M,
     file: &mut R,
     to: &mut W,
@@ -96,14 +98,15 @@ pub fn piece<const N: usize, const B: usize, M: TakesTurns<N>, R: Read, W: Write
     name: &[u8],
     input: &mut Input<B>,
     lent: &mut [u8],
-    out: &mut ArrayVec<u8, N>,
+    out: &mut O,
 ) -> io::Result<()>
-    requires sizes { (M.machine.most_seen ≤ B) × (M.machine.most_text ≤ N) }
+    requires sizes { (M.machine.most_seen ≤ B) × (M.machine.most_text ≤ (O.held out.old).size) }
     requires counts { M.counted state.old + M.for_each * B < 2 ^ 64 }
     requires lent_len { length lent.old ≡ M.lent_size }
-    ensures piece { OnOk result (PieceOf M.machine N input.old.buffer input.old.window state.old lent.old out.old.items
-        input.new.buffer lent.new out.new.items state.new input.new.window) }
+    ensures piece { OnOk result (PieceOf M.machine (O.held out.old).size input.old.buffer input.old.window state.old
+        lent.old (O.held out.old).text input.new.buffer lent.new (O.held out.new).text state.new input.new.window) }
     ensures counts { OnOk result (M.counted state.new ≤ M.counted state.old + M.for_each * B) }
+    ensures same { room_of (O.held out.new) ≡ room_of (O.held out.old) }
 {
     text::make_room(to, err, out, M::MOST_TEXT)?;
     input.top_up(file, err, name, M::MOST_SEEN).got?;
@@ -113,7 +116,7 @@ pub fn piece<const N: usize, const B: usize, M: TakesTurns<N>, R: Read, W: Write
 
 // A piece of a file at a time, from its first one, until it stops; none where a piece can't be read, or its text not be written, and where
 // it has not stopped after so many: a proved loop has to end, and nothing says that a file does.
-pub fn run<const N: usize, const B: usize, M: TakesTurns<N>, R: Read, W: Write, E: Write>(
+pub fn run<O: Room, const B: usize, M: TakesTurns<O>, R: Read, W: Write, E: Write>(
     state: &mut M,
     file: &mut R,
     to: &mut W,
@@ -121,15 +124,15 @@ pub fn run<const N: usize, const B: usize, M: TakesTurns<N>, R: Read, W: Write, 
     name: &[u8],
     input: &mut Input<B>,
     lent: &mut [u8],
-    out: &mut ArrayVec<u8, N>,
+    out: &mut O,
     most_pieces: u64,
 ) -> Option<()>
-    requires starts { (state.old ≡ M.machine.first) × (input.old.window ≡ empty_window) × (out.old.items ≡ M.machine.heading) }
-    requires sizes { (M.machine.most_seen ≤ B) × (M.machine.most_text ≤ N) }
+    requires starts { (state.old ≡ M.machine.first) × (input.old.window ≡ empty_window) × ((O.held out.old).text ≡ M.machine.heading) }
+    requires sizes { (M.machine.most_seen ≤ B) × (M.machine.most_text ≤ (O.held out.old).size) }
     requires counts { M.counted state.old + M.for_each * (B * most_pieces) < 2 ^ 64 }
     requires lent_len { length lent.old ≡ M.lent_size }
-    ensures whole { OnSome result (PrintedWhole M.machine out.new.items) }
-    ensures at_once { OnSome result (Quiet M.machine → PrintedAtOnce M.machine out.new.items) }
+    ensures whole { OnSome result (PrintedWhole M.machine (O.held out.new).text) }
+    ensures at_once { OnSome result (Quiet M.machine → PrintedAtOnce M.machine (O.held out.new).text) }
 {
     for _ in 0..most_pieces {
         piece(state, file, to, err, name, input, lent, out).ok()?;

@@ -2,6 +2,7 @@
 #![tactic(auto)]
 
 ghost use Rattle.std.specs.Prelude.{◌≡◌, false, ◌++◌, ◌+◌, ◌*◌, ◌^◌, ◌≤◌, ◌<◌, length, position, nat_eq};
+ghost use Rattle.text.specs.Text.{put, left, room_of};
 ghost use Rattle.pieces.specs.Pieces.{TurnTaken};
 ghost use Rattle.trace.specs.Record.{size_of};
 ghost use Rattle.trace.specs.Call.{room};
@@ -28,13 +29,13 @@ ghost use Rattle.recorder_file.specs.Said.{
 ghost use Rattle.recorder_file.specs.Check.{start_of, nth, reckoned, one_call_more, turn_on};
 ghost use Rattle.recorder_file.specs.declared.Verdict.{Verdict};
 
-use arrayvec::ArrayVec;
 use calls::Answer;
 use clock::Age;
 use connection::Connection;
 use pieces::TakesTurns;
 use recorded_answer::{ANSWER_FIELDS_SIZE, Fields, LEAST_BYTES, MOST_BYTES};
 use table::MOST_RECORDS;
+use text::Room;
 use trace::{FIELDS_SIZE, Next, Record};
 
 // The most bytes that are put at the end of a check.
@@ -108,16 +109,12 @@ impl Progress {
     // A call that may stand there: it is made, and where its answer stands behind it, that is held against the one that the rules give. Of
     // a wrong answer the table stays as it was before the call. The bytes that it used.
     // Stays: `size_of r ≤ length s.now` here and in `trace::made_by` and `made_on`: those are public, and take the record beside its bytes.
-    fn judged<const N: usize>(
-        &mut self,
-        s: &[u8],
-        r: Record,
-        lent: &mut [u8],
-        out: &mut ArrayVec<u8, N>,
-    ) -> usize
+    fn judged<O: Room>(&mut self, s: &[u8], r: Record, lent: &mut [u8], out: &mut O) -> usize
         requires { (self.old.stopped ≡ false) × (size_of r ≤ length s.now) × (length lent.old ≡ room)
-            × (length out.old.items + most_said ≤ N) × (reckoned self.old.passed + 2 * length s.now < 2 ^ 64) }
-        ensures { TurnTaken (turn_on self.old (Next.Whole r) s.now) self.new lent.old lent.new out.old.items out.new.items result }
+            × (most_said ≤ left (O.held out.old)) × (reckoned self.old.passed + 2 * length s.now < 2 ^ 64) }
+        ensures taken { TurnTaken (turn_on self.old (Next.Whole r) s.now) self.new lent.old lent.new
+            (O.held out.old).text (O.held out.new).text result }
+        ensures put { O.held out.new ≡ put (turn_on self.old (Next.Whole r) s.now).text (O.held out.old) }
     {
         let slot = r.slot as usize;
         let before = self.table.get(slot).copied();
@@ -143,7 +140,7 @@ impl Progress {
     }
 }
 
-impl<const N: usize> TakesTurns<N> for Progress {
+impl<O: Room> TakesTurns<O> for Progress {
     ghost use Rattle.std.specs.Prelude.{refl};
     ghost use Rattle.recorder_file.specs.Check.{most_seen, checker};
     ghost use Rattle.recorder_file.specs.Laws.{check_laws, check_counts};
@@ -178,7 +175,7 @@ impl<const N: usize> TakesTurns<N> for Progress {
         self.stopped
     }
 
-    fn turn(&mut self, s: &[u8], lent: &mut [u8], out: &mut ArrayVec<u8, N>) -> usize {
+    fn turn(&mut self, s: &[u8], lent: &mut [u8], out: &mut O) -> usize {
         match trace::record_of(s) {
             Next::End => put_verdict(out, Verdict::Agrees(self.passed.judged)),
             Next::Bad => put_bad(out, self.passed, s),
@@ -190,10 +187,12 @@ impl<const N: usize> TakesTurns<N> for Progress {
 }
 
 // CHECKER-8, CHECKER-9, CHECKER-10.
-fn put_verdict<const N: usize>(out: &mut ArrayVec<u8, N>, verdict: Verdict)
-    requires { length out.old.items + most_verdict ≤ N }
-    ensures put { out.new.items ≡ out.old.items ++ line_of verdict }
-    ensures upper_bound { length out.new.items ≤ length out.old.items + most_verdict }
+#[tactic(auto, using(text::proofs::Puts::put_put))]
+fn put_verdict<O: Room>(out: &mut O, verdict: Verdict)
+    requires { most_verdict ≤ left (O.held out.old) }
+    ensures put { O.held out.new ≡ put (line_of verdict) (O.held out.old) }
+    ensures upper_bound { left (O.held out.old) ≤ left (O.held out.new) + most_verdict }
+    ensures same { room_of (O.held out.new) ≡ room_of (O.held out.old) }
 {
     match verdict {
         Verdict::Agrees(judged) => {
@@ -211,10 +210,11 @@ fn put_verdict<const N: usize>(out: &mut ArrayVec<u8, N>, verdict: Verdict)
 }
 
 // CHECKER-13: where it stopped.
-fn put_place<const N: usize>(out: &mut ArrayVec<u8, N>, nth: u64, offset: u64)
-    requires { length out.old.items + most_place ≤ N }
-    ensures put { out.new.items ≡ out.old.items ++ place_line nth offset }
-    ensures upper_bound { length out.new.items ≤ length out.old.items + most_place }
+fn put_place<O: Room>(out: &mut O, nth: u64, offset: u64)
+    requires { most_place ≤ left (O.held out.old) }
+    ensures put { O.held out.new ≡ put (place_line nth offset) (O.held out.old) }
+    ensures upper_bound { left (O.held out.old) ≤ left (O.held out.new) + most_place }
+    ensures same { room_of (O.held out.new) ≡ room_of (O.held out.old) }
 {
     text::put(out, b"record");
     text::put_number(out, nth);
@@ -254,10 +254,12 @@ fn why_bad(s: &[u8]) -> &'static [u8]
 }
 
 // CHECKER-14: the words of an answer's number and release.
-fn put_number_words<const N: usize>(out: &mut ArrayVec<u8, N>, number: u16, released: u8)
-    requires { length out.old.items + most_number_words ≤ N }
-    ensures put { out.new.items ≡ out.old.items ++ number_words number released }
-    ensures upper_bound { length out.new.items ≤ length out.old.items + most_number_words }
+#[tactic(auto, using(text::proofs::Puts::put_put))]
+fn put_number_words<O: Room>(out: &mut O, number: u16, released: u8)
+    requires { most_number_words ≤ left (O.held out.old) }
+    ensures put { O.held out.new ≡ put (number_words number released) (O.held out.old) }
+    ensures upper_bound { left (O.held out.old) ≤ left (O.held out.new) + most_number_words }
+    ensures same { room_of (O.held out.new) ≡ room_of (O.held out.old) }
 {
     text::put(out, b" answer");
     text::put_number(out, u64::from(number));
@@ -266,10 +268,12 @@ fn put_number_words<const N: usize>(out: &mut ArrayVec<u8, N>, number: u16, rele
 }
 
 // CHECKER-14: the words of its age and of the bytes written.
-fn put_age_words<const N: usize>(out: &mut ArrayVec<u8, N>, age: Age, written: &[u8])
-    requires { (length out.old.items + most_age_words ≤ N) × (length written.now ≤ room) }
-    ensures put { out.new.items ≡ out.old.items ++ age_words age written.now }
-    ensures upper_bound { length out.new.items ≤ length out.old.items + most_age_words }
+#[tactic(auto, using(text::proofs::Puts::put_put))]
+fn put_age_words<O: Room>(out: &mut O, age: Age, written: &[u8])
+    requires { (most_age_words ≤ left (O.held out.old)) × (length written.now ≤ room) }
+    ensures put { O.held out.new ≡ put (age_words age written.now) (O.held out.old) }
+    ensures upper_bound { left (O.held out.old) ≤ left (O.held out.new) + most_age_words }
+    ensures same { room_of (O.held out.new) ≡ room_of (O.held out.old) }
 {
     text::put(out, b" age");
     text::put_centred(out, age);
@@ -279,16 +283,12 @@ fn put_age_words<const N: usize>(out: &mut ArrayVec<u8, N>, age: Age, written: &
 }
 
 // CHECKER-14: an answer, behind a word that says whose it is.
-fn put_answer<const N: usize>(
-    out: &mut ArrayVec<u8, N>,
-    whose: &[u8],
-    fields: Fields,
-    written: &[u8],
-)
-    requires { (length out.old.items + length whose.now + most_answer_words ≤ N) × (length written.now ≤ room) }
-    ensures put { out.new.items ≡ out.old.items
-        ++ (whose.now ++ answer_words fields.number fields.released fields.age written.now) }
-    ensures upper_bound { length out.new.items ≤ length out.old.items + length whose.now + most_answer_words }
+#[tactic(auto, using(text::proofs::Puts::put_put))]
+fn put_answer<O: Room>(out: &mut O, whose: &[u8], fields: Fields, written: &[u8])
+    requires { (length whose.now + most_answer_words ≤ left (O.held out.old)) × (length written.now ≤ room) }
+    ensures put { O.held out.new ≡ put (whose.now ++ answer_words fields.number fields.released fields.age written.now) (O.held out.old) }
+    ensures upper_bound { left (O.held out.old) ≤ left (O.held out.new) + length whose.now + most_answer_words }
+    ensures same { room_of (O.held out.new) ≡ room_of (O.held out.old) }
 {
     text::put(out, whose);
     put_number_words(out, fields.number, fields.released);
@@ -296,19 +296,20 @@ fn put_answer<const N: usize>(
 }
 
 // CHECKER-9, CHECKER-13, CHECKER-14: the verdict, where the check stopped, and both answers.
-fn put_difference<const N: usize>(
-    out: &mut ArrayVec<u8, N>,
+fn put_difference<O: Room>(
+    out: &mut O,
     passed: Passed,
     used: usize,
     recorded: &[u8],
     answer: Answer,
     lent: &[u8],
 )
-    requires { (length out.old.items + most_said ≤ N) × (answer_fields_size ≤ length recorded.now)
+    requires { (most_said ≤ left (O.held out.old)) × (answer_fields_size ≤ length recorded.now)
         × (length recorded.now ≤ most_answer_bytes) × (answer.written ≤ length lent.now) × (length lent.now ≡ room)
         × (reckoned passed + used + 2 < 2 ^ 64) }
-    ensures { out.new.items ≡ out.old.items ++ (line_of (Verdict.Differs (passed.calls + 1))
-        ++ difference_told (nth passed + 1) (passed.offset + used) recorded.now answer lent.now) }
+    ensures put { O.held out.new ≡ put (line_of (Verdict.Differs (passed.calls + 1))
+        ++ difference_told (nth passed + 1) (passed.offset + used) recorded.now answer lent.now) (O.held out.old) }
+    ensures same { room_of (O.held out.new) ≡ room_of (O.held out.old) }
 {
     put_verdict(out, Verdict::Differs(passed.calls + 1));
     put_place(out, passed.nth() + 1, passed.offset + used as u64);
@@ -320,9 +321,11 @@ fn put_difference<const N: usize>(
 }
 
 // CHECKER-10, CHECKER-13: the verdict on a file with a bad record, where that stands, and why it is bad.
-fn put_bad<const N: usize>(out: &mut ArrayVec<u8, N>, passed: Passed, s: &[u8])
-    requires { (length out.old.items + most_said ≤ N) × (reckoned passed + 1 < 2 ^ 64) }
-    ensures { out.new.items ≡ out.old.items ++ (line_of Verdict.Bad ++ bad_told (nth passed) passed.offset s.now) }
+#[tactic(auto, using(text::proofs::Puts::put_put))]
+fn put_bad<O: Room>(out: &mut O, passed: Passed, s: &[u8])
+    requires { (most_said ≤ left (O.held out.old)) × (reckoned passed + 1 < 2 ^ 64) }
+    ensures put { O.held out.new ≡ put (line_of Verdict.Bad ++ bad_told (nth passed) passed.offset s.now) (O.held out.old) }
+    ensures same { room_of (O.held out.new) ≡ room_of (O.held out.old) }
 {
     put_verdict(out, Verdict::Bad);
     put_place(out, passed.nth(), passed.offset);

@@ -13,6 +13,8 @@ use Rattle.window.specs.declared.Window.{Window}
 use Rattle.links.specs.declared.Taken.{Taken}
 use Rattle.link_promises.proofs.Promises.{uses_no_more_than_lent}
 use Rattle.recording.specs.Progress.{taken_at, counted_of, stepped_of, UsesNoMore, Lies, AdvancesAgree}
+use Rattle.recording.specs.InPlace.{AdvancesAtAgree}
+use Rattle.text.proofs.Puts.{puts_at_agree}
 use Rattle.recording.specs.declared.Progress.{Progress}
 
 -- what is within the link that is named, said of each link
@@ -65,3 +67,9 @@ lies_after ns rs p after taken u l e =
 
 pub advances_agree : AdvancesAgree
 advances_agree normal redundant callers ours p before after after' r r' one other = (one.put ∙ sym other.put, one.progress ∙ sym other.progress)
+
+-- and so where its line is put into a lent buffer
+pub advances_at_agree : AdvancesAtAgree
+advances_at_agree normal redundant callers ours p before at after after' r r' next next' one other =
+    let put = puts_at_agree before at _ after after' next next' one.put other.put in
+    (put.0, one.progress ∙ sym other.progress, put.1)

@@ -3,3 +3,4 @@ pub mod Progress
 pub mod Cut
 pub mod Whole
 pub mod Ids
+pub mod InPlace

@@ -2,6 +2,7 @@
 #![tactic(auto)]
 
 ghost use Rattle.std.specs.Prelude.{◌≡◌, true, false, ◌+◌, ◌^◌, ◌≤◌, ◌<◌, ◌++◌, length};
+ghost use Rattle.text.specs.Text.{put, left, room_of};
 ghost use Rattle.window.specs.Window.{low_of};
 ghost use Rattle.packet.specs.Sizes.{most_packet};
 ghost use Rattle.recording.specs.Printed.{heading, link_name, handed_up_text, line_of, most_link_name, most_handed_up, most_line};
@@ -9,8 +10,8 @@ ghost use Rattle.recording.specs.Progress.{start_of, windowed, taken_at, last_an
 ghost use Rattle.recording.specs.Ids.{digit_value, id_of};
 ghost use Rattle.recording.specs.Progress.{UsesNoMore, CountsItsData, Lies, AdvancedTo};
 
-use arrayvec::ArrayVec;
 use links::{State, Taken};
+use text::Room;
 use window::Window;
 
 // The most bytes of a link's name, and of a line: the name, five numbers, and its end.
@@ -58,18 +59,21 @@ impl Progress {
 }
 
 // The heading.
-pub fn put_heading<const N: usize>(out: &mut ArrayVec<u8, N>)
-    requires { length out.old.items + most_line ≤ N }
-    ensures { out.new.items ≡ out.old.items ++ heading }
+pub fn put_heading<O: Room>(out: &mut O)
+    requires { most_line ≤ left (O.held out.old) }
+    ensures put { O.held out.new ≡ put heading (O.held out.old) }
+    ensures text { (O.held out.new).text ≡ (O.held out.old).text ++ heading }
+    ensures same { room_of (O.held out.new) ≡ room_of (O.held out.old) }
 {
     text::put(out, b"link answer used type number data\n");
 }
 
 // The name of a link.
-fn put_link<const N: usize>(out: &mut ArrayVec<u8, N>, normal: bool)
-    requires { length out.old.items + most_link_name ≤ N }
-    ensures put { out.new.items ≡ out.old.items ++ link_name normal }
-    ensures upper_bound { length out.new.items ≤ length out.old.items + most_link_name }
+fn put_link<O: Room>(out: &mut O, normal: bool)
+    requires { most_link_name ≤ left (O.held out.old) }
+    ensures put { O.held out.new ≡ put (link_name normal) (O.held out.old) }
+    ensures upper_bound { left (O.held out.old) ≤ left (O.held out.new) + most_link_name }
+    ensures same { room_of (O.held out.new) ≡ room_of (O.held out.old) }
 {
     if normal {
         text::put(out, b"normal");
@@ -79,10 +83,12 @@ fn put_link<const N: usize>(out: &mut ArrayVec<u8, N>, normal: bool)
 }
 
 // The type, the number and the count of user data bytes, and the end of the line.
-fn put_handed_up<const N: usize>(out: &mut ArrayVec<u8, N>, kind: u8, number: u16, size: usize)
-    requires { length out.old.items + most_handed_up ≤ N }
-    ensures put { out.new.items ≡ out.old.items ++ handed_up_text kind number size }
-    ensures upper_bound { length out.new.items ≤ length out.old.items + most_handed_up }
+#[tactic(auto, using(text::proofs::Puts::put_put))]
+fn put_handed_up<O: Room>(out: &mut O, kind: u8, number: u16, size: usize)
+    requires { most_handed_up ≤ left (O.held out.old) }
+    ensures put { O.held out.new ≡ put (handed_up_text kind number size) (O.held out.old) }
+    ensures upper_bound { left (O.held out.old) ≤ left (O.held out.new) + most_handed_up }
+    ensures same { room_of (O.held out.new) ≡ room_of (O.held out.old) }
 {
     text::put_number(out, u64::from(kind));
     text::put_number(out, u64::from(number));
@@ -91,11 +97,13 @@ fn put_handed_up<const N: usize>(out: &mut ArrayVec<u8, N>, kind: u8, number: u1
 }
 
 // The line of a step, whose user data has so many bytes.
-fn put_counted<const N: usize>(out: &mut ArrayVec<u8, N>, taken: Taken, size: usize)
-    requires most_line_in_bounds { length out.old.items + most_line ≤ N }
+#[tactic(auto, using(text::proofs::Puts::put_put))]
+fn put_counted<O: Room>(out: &mut O, taken: Taken, size: usize)
+    requires most_line_in_bounds { most_line ≤ left (O.held out.old) }
     requires size_value { size ≡ taken.size }
-    ensures put { out.new.items ≡ out.old.items ++ line_of taken }
-    ensures upper_bound { length out.new.items ≤ length out.old.items + most_line }
+    ensures put { O.held out.new ≡ put (line_of taken) (O.held out.old) }
+    ensures upper_bound { left (O.held out.old) ≤ left (O.held out.new) + most_line }
+    ensures same { room_of (O.held out.new) ≡ room_of (O.held out.old) }
 {
     put_link(out, taken.normal);
     text::put_number(out, u64::from(taken.answer));
@@ -104,10 +112,11 @@ fn put_counted<const N: usize>(out: &mut ArrayVec<u8, N>, taken: Taken, size: us
 }
 
 // The line of a step.
-pub fn put_line<const N: usize>(out: &mut ArrayVec<u8, N>, taken: Taken)
-    requires { length out.old.items + most_line ≤ N }
-    ensures put { out.new.items ≡ out.old.items ++ line_of taken }
-    ensures upper_bound { length out.new.items ≤ length out.old.items + most_line }
+pub fn put_line<O: Room>(out: &mut O, taken: Taken)
+    requires { most_line ≤ left (O.held out.old) }
+    ensures put { O.held out.new ≡ put (line_of taken) (O.held out.old) }
+    ensures upper_bound { left (O.held out.old) ≤ left (O.held out.new) + most_line }
+    ensures same { room_of (O.held out.new) ≡ room_of (O.held out.old) }
 {
     put_counted(out, taken, taken.size);
 }
@@ -200,21 +209,23 @@ fn stepped_of(p: Progress, taken: Taken) -> Progress
 
 // One step over windows that are not low, so that it is the step over the whole files (proofs/Whole); its line is put into the out buffer.
 // Stays: the bound on the count, asked of a step and its two parts: a step adds to it, so it is no fact of a Progress.
-pub fn advance<'a, const N: usize>(
+pub fn advance<'a, O: Room>(
     normal: &'a [u8],
     redundant: &'a [u8],
-    out: &mut ArrayVec<u8, N>,
+    out: &mut O,
     callers: &'a [u8],
     ours: u32,
     p: Progress,
 ) -> Progress
     requires lies { Lies p (length normal.now) (length redundant.now) }
-    requires most_line_in_bounds { length out.old.items + most_line ≤ N }
+    requires most_line_in_bounds { most_line ≤ left (O.held out.old) }
     requires normal_value { (low_of most_packet p.normal ≡ false) × (low_of most_packet p.redundant ≡ false) }
     requires handed_up_bound { p.handed_up + 1 < 2 ^ 64 }
-    ensures advanced_to { AdvancedTo normal.now redundant.now callers.now ours p out.old.items out.new.items result }
+    ensures advanced_to { AdvancedTo normal.now redundant.now callers.now ours p (O.held out.old).text (O.held out.new).text result }
+    ensures put { O.held out.new ≡ put (line_of (taken_at normal.now redundant.now callers.now ours p)) (O.held out.old) }
+    ensures same { room_of (O.held out.new) ≡ room_of (O.held out.old) }
     ensures lies_2 { Lies result (length normal.now) (length redundant.now)
-        × (result.handed_up ≤ p.handed_up + 1) × (length out.new.items ≤ length out.old.items + most_line) }
+        × (result.handed_up ≤ p.handed_up + 1) × (left (O.held out.old) ≤ left (O.held out.new) + most_line) }
 {
     let taken = taken_at(normal, redundant, callers, ours, p);
     let size = count_data(normal, redundant, p, taken);

@@ -33,6 +33,7 @@ impl WorksOnAFile for Replay {
     const USAGE: &'static [u8] = b"replay: the argument is FILE, or none for standard input\n";
 
     // The heading, then a piece at a time until the replay stops.
+    #[tactic(auto, unfolding(text::specs::Text::left))]
     fn work<R: Read>(rt: &HostRuntime, file: &mut R, name: &[u8]) {
         let mut to = rt.stdout();
         let mut err = rt.stderr();

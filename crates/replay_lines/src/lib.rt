@@ -1,15 +1,19 @@
 // The lines that the replay of a trace prints: its records are read, each makes its call on the table, and a line is put for it.
 #![tactic(auto)]
 
-ghost use Rattle.std.specs.Prelude.{◌≡◌, ◌++◌, ◌+◌, ◌≤◌, length};
+ghost use Rattle.std.specs.Prelude.{◌≡◌, ◌++◌, ◌≤◌};
+ghost use Rattle.text.specs.Text.{put, left, room_of};
 ghost use Rattle.replay_lines.specs.Printed.{heading, line_of, bad_of, most_line};
 ghost use Rattle.replay_lines.specs.Replay.{start_of, replay};
 
-use arrayvec::ArrayVec;
+#[cfg(test)]
+mod tests;
+
 use clock::Age;
 use connection::Connection;
 use pieces::TakesTurns;
 use table::MOST_RECORDS;
+use text::Room;
 use trace::{FIELDS_SIZE, MOST_RECORD, Next};
 
 // The most bytes that are put at a turn.
@@ -37,17 +41,21 @@ impl Progress {
 }
 
 // The heading.
-pub fn put_heading<const N: usize>(out: &mut ArrayVec<u8, N>)
-    requires { length out.old.items + most_line ≤ N }
-    ensures { out.new.items ≡ out.old.items ++ heading }
+pub fn put_heading<O: Room>(out: &mut O)
+    requires { most_line ≤ left (O.held out.old) }
+    ensures put { O.held out.new ≡ put heading (O.held out.old) }
+    ensures text { (O.held out.new).text ≡ (O.held out.old).text ++ heading }
+    ensures same { room_of (O.held out.new) ≡ room_of (O.held out.old) }
 {
     text::put(out, b"slot answer age\n");
 }
 
 // The line of a record.
-fn put_line<const N: usize>(out: &mut ArrayVec<u8, N>, slot: u8, number: u16, age: Age)
-    requires { length out.old.items + most_line ≤ N }
-    ensures { out.new.items ≡ out.old.items ++ line_of slot number age }
+#[tactic(auto, using(text::proofs::Puts::put_put))]
+fn put_line<O: Room>(out: &mut O, slot: u8, number: u16, age: Age)
+    requires { most_line ≤ left (O.held out.old) }
+    ensures put { O.held out.new ≡ put (line_of slot number age) (O.held out.old) }
+    ensures same { room_of (O.held out.new) ≡ room_of (O.held out.old) }
 {
     text::put_decimal(out, u64::from(slot));
     text::put_number(out, u64::from(number));
@@ -56,15 +64,17 @@ fn put_line<const N: usize>(out: &mut ArrayVec<u8, N>, slot: u8, number: u16, ag
 }
 
 // `bad` and the last line.
-fn put_bad<const N: usize>(out: &mut ArrayVec<u8, N>, count: u64)
-    requires { length out.old.items + most_line ≤ N }
-    ensures { out.new.items ≡ out.old.items ++ bad_of count }
+#[tactic(auto, using(text::proofs::Puts::put_put))]
+fn put_bad<O: Room>(out: &mut O, count: u64)
+    requires { most_line ≤ left (O.held out.old) }
+    ensures put { O.held out.new ≡ put (bad_of count) (O.held out.old) }
+    ensures same { room_of (O.held out.new) ≡ room_of (O.held out.old) }
 {
     text::put(out, b"bad\n");
     text::put_end(out, count);
 }
 
-impl<const N: usize> TakesTurns<N> for Progress {
+impl<O: Room> TakesTurns<O> for Progress {
     ghost use Rattle.std.specs.Prelude.{refl};
     ghost use Rattle.trace.specs.Record.{most_record};
     ghost use Rattle.trace.specs.Call.{room};
@@ -98,7 +108,8 @@ impl<const N: usize> TakesTurns<N> for Progress {
         self.stopped
     }
 
-    fn turn(&mut self, s: &[u8], lent: &mut [u8], out: &mut ArrayVec<u8, N>) -> usize {
+    #[tactic(auto, using(text::proofs::Puts::text_after))]
+    fn turn(&mut self, s: &[u8], lent: &mut [u8], out: &mut O) -> usize {
         match trace::record_of(s) {
             Next::End => {
                 self.stopped = true;

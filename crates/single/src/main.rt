@@ -53,6 +53,7 @@ fn kind_of(word: &[u8]) -> Option<Kind> {
 }
 
 // The lines of the input at the front of s, if it is there whole, and how many bytes it takes.
+#[tactic(auto, unfolding(text::specs::Text::left))]
 fn input_at<const N: usize>(kind: Kind, s: &[u8], out: &mut ArrayVec<u8, N>) -> Option<usize>
     requires { length out.old.items + most_text ≤ N }
     ensures { IfSome result (λ used. used ≤ length s.now) }

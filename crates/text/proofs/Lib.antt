@@ -1,4 +1,5 @@
 pub mod Puts
+pub mod Rooms
 pub mod Places
 pub mod Words
 pub mod Line

@@ -70,11 +70,6 @@ digits_cut n s first others p q =
     sym (digits_append first others) ∙ ap (λ (l : List ℕ). digits_of (l ++ others)) p ∙ ap (λ (l : List ℕ). digits_of (take n s ++ l)) q
     ∙ ap digits_of (take-append-drop n s)
 
--- and as many where texts with them are the same
-pub as_many_digits : (before after s others : List ℕ) → after ++ digits_of others ≡ before ++ digits_of s → length after + 2 * length others ≡ length before + 2 * length s
-as_many_digits before after s others e =
-    omega (arith, ap (λ (l : List ℕ). length l) e, length-append after (digits_of others), length-append before (digits_of s), two_each others, two_each s)
-
 -- the digits of a front are the front of the digits
 pub digits_of_front : (s front behind : List ℕ) → front ≡ s → take (2 * length s) (digits_of (front ++ behind)) ≡ digits_of s
 digits_of_front s front behind e =

@@ -1,3 +1,4 @@
 pub mod Ascii
 pub mod Text
+pub mod Room
 pub mod Line

@@ -1,20 +1,23 @@
-// Text in a room of a fixed size: numbers, offsets, ages and bytes, one word after the other; room for it, and writing it.
+// Text in a room: numbers, offsets, ages and bytes, one word after the other; room for it, and writing it.
 // And the words of a command line, and what is said of an error.
 #![tactic(auto)]
 
 mod arguments;
+mod front;
 mod reason;
+mod room;
 
 ghost use Rattle.std.specs.Prelude.{◌≡◌, ◌++◌, ◌+◌, ◌*◌, ◌≤◌, ◌<◌, length, drop, OnOk};
 ghost use Rattle.std.specs.Io.KnownBytes.{Appends};
-ghost use Rattle.text.specs.Text.{RoomMade, held_of, chosen_of, digit, most_digits, decimal_in, decimal_of};
+ghost use Rattle.text.specs.Text.{put, left, room_of, room_for, RoomMade, held_of, chosen_of, digit, most_digits, decimal_in, decimal_of};
 ghost use Rattle.text.specs.Line.{number_word, end_of, centred_word, digits_of, bytes_word, all_before, written_words};
 ghost use Rattle.text.specs.Line.{most_number, most_end, most_signed, most_bytes_word, most_written_words};
 
 pub use arguments::{arg, arg_count};
-use arrayvec::ArrayVec;
 use clock::Centred;
+pub use front::Front;
 pub use reason::fail;
+pub use room::{Holds, Part, Room};
 use std::io;
 use std::io::Write;
 
@@ -34,45 +37,54 @@ const DIGITS_AT_ONCE: usize = 2 * AT_ONCE;
 // Stays: the room asked for, in each contract: it is another for each word, and no fact of a text.
 
 // Puts bytes behind a text.
-pub fn put<const N: usize>(out: &mut ArrayVec<u8, N>, s: &[u8])
-    requires { length out.old.items + length s.now ≤ N }
-    ensures { out.new.items ≡ out.old.items ++ s.now }
+#[tactic(auto, using(crate::proofs::Puts::left_put), unfolding(crate::specs::Text::put, crate::specs::Text::room_of))]
+pub fn put<O: Room>(out: &mut O, s: &[u8])
+    requires { length s.now ≤ left (O.held out.old) }
+    ensures put { O.held out.new ≡ put s.now (O.held out.old) }
+    ensures left { left (O.held out.new) + length s.now ≡ left (O.held out.old) }
+    ensures same { room_of (O.held out.new) ≡ room_of (O.held out.old) }
 {
-    let _fits = out.try_extend_from_slice(s);
+    out.put(s);
 }
 
 // Puts a number in decimal behind a text, in at most so many digits.
 // Stays: digit by digit: with the kit's `itoa` a replay of 60 MB took 0.21 to 0.30 s of user time, and 0.14 to 0.19 s as it is.
-fn put_decimal_in<const N: usize>(out: &mut ArrayVec<u8, N>, n: u64, most: usize)
-    requires { length out.old.items + most ≤ N }
-    ensures put { out.new.items ≡ out.old.items ++ decimal_in most n }
-    ensures upper_bound { length out.new.items ≤ length out.old.items + most }
+#[tactic(auto, using(crate::proofs::Puts::left_put, crate::proofs::Puts::room_put))]
+fn put_decimal_in<O: Room>(out: &mut O, n: u64, most: usize)
+    requires { most ≤ left (O.held out.old) }
+    ensures put { O.held out.new ≡ put (decimal_in most n) (O.held out.old) }
+    ensures upper_bound { left (O.held out.old) ≤ left (O.held out.new) + most }
+    ensures same { room_of (O.held out.new) ≡ room_of (O.held out.old) }
 {
     if most == 0 {
         return;
     }
     if n < 10 {
-        out.push(digit(n as u8));
+        out.put_byte(digit(n as u8));
     } else {
         put_decimal_in(out, n / 10, most - 1);
-        out.push(digit((n % 10) as u8));
+        out.put_byte(digit((n % 10) as u8));
     }
 }
 
 // Puts a number in decimal behind a text.
-pub fn put_decimal<const N: usize>(out: &mut ArrayVec<u8, N>, n: u64)
-    requires { length out.old.items + most_digits ≤ N }
-    ensures put { out.new.items ≡ out.old.items ++ decimal_of n }
-    ensures upper_bound { length out.new.items ≤ length out.old.items + most_digits }
+#[tactic(auto, using(crate::proofs::Puts::put_put))]
+pub fn put_decimal<O: Room>(out: &mut O, n: u64)
+    requires { most_digits ≤ left (O.held out.old) }
+    ensures put { O.held out.new ≡ put (decimal_of n) (O.held out.old) }
+    ensures upper_bound { left (O.held out.old) ≤ left (O.held out.new) + most_digits }
+    ensures same { room_of (O.held out.new) ≡ room_of (O.held out.old) }
 {
     put_decimal_in(out, n, MOST_DIGITS);
 }
 
 // A number after a space: one of one digit, as most are, is put at once with it.
-pub fn put_number<const N: usize>(out: &mut ArrayVec<u8, N>, n: u64)
-    requires { length out.old.items + most_number ≤ N }
-    ensures put { out.new.items ≡ out.old.items ++ number_word n }
-    ensures upper_bound { length out.new.items ≤ length out.old.items + most_number }
+#[tactic(auto, using(crate::proofs::Puts::put_put))]
+pub fn put_number<O: Room>(out: &mut O, n: u64)
+    requires { most_number ≤ left (O.held out.old) }
+    ensures put { O.held out.new ≡ put (number_word n) (O.held out.old) }
+    ensures upper_bound { left (O.held out.old) ≤ left (O.held out.new) + most_number }
+    ensures same { room_of (O.held out.new) ≡ room_of (O.held out.old) }
 {
     if n < 10 {
         put(out, &[b' ', digit(n as u8)]);
@@ -83,10 +95,12 @@ pub fn put_number<const N: usize>(out: &mut ArrayVec<u8, N>, n: u64)
 }
 
 // TRACE-13, CUT-1: the last line.
-pub fn put_end<const N: usize>(out: &mut ArrayVec<u8, N>, count: u64)
-    requires { length out.old.items + most_end ≤ N }
-    ensures put { out.new.items ≡ out.old.items ++ end_of count }
-    ensures upper_bound { length out.new.items ≤ length out.old.items + most_end }
+#[tactic(auto, using(crate::proofs::Puts::put_put))]
+pub fn put_end<O: Room>(out: &mut O, count: u64)
+    requires { most_end ≤ left (O.held out.old) }
+    ensures put { O.held out.new ≡ put (end_of count) (O.held out.old) }
+    ensures upper_bound { left (O.held out.old) ≤ left (O.held out.new) + most_end }
+    ensures same { room_of (O.held out.new) ≡ room_of (O.held out.old) }
 {
     put(out, b"end");
     put_number(out, count);
@@ -94,10 +108,12 @@ pub fn put_end<const N: usize>(out: &mut ArrayVec<u8, N>, count: u64)
 }
 
 // TRACE-13: an age or an offset, or another number of theirs, after a space, and its size after a minus where it is negative.
-pub fn put_centred<const N: usize, T: Centred>(out: &mut ArrayVec<u8, N>, centred: T)
-    requires { length out.old.items + most_signed ≤ N }
-    ensures put { out.new.items ≡ out.old.items ++ centred_word (T.number centred) }
-    ensures upper_bound { length out.new.items ≤ length out.old.items + most_signed }
+#[tactic(auto, using(crate::proofs::Puts::put_put))]
+pub fn put_centred<O: Room, T: Centred>(out: &mut O, centred: T)
+    requires { most_signed ≤ left (O.held out.old) }
+    ensures put { O.held out.new ≡ put (centred_word (T.number centred)) (O.held out.old) }
+    ensures upper_bound { left (O.held out.old) ≤ left (O.held out.new) + most_signed }
+    ensures same { room_of (O.held out.new) ≡ room_of (O.held out.old) }
 {
     if centred.negative() {
         put(out, b" -");
@@ -136,10 +152,11 @@ fn digits_of(s: &[u8; AT_ONCE]) -> [u8; DIGITS_AT_ONCE]
 
 // Bytes, two digits each.
 // Stays: so many bytes at once, by way of an array: with a push for each digit `single` took 1.8 times as long on steps.
-fn put_digits<const N: usize>(out: &mut ArrayVec<u8, N>, s: &[u8])
-    requires { length out.old.items + 2 * length s.now ≤ N }
-    ensures put { out.new.items ≡ out.old.items ++ digits_of s.now }
-    ensures upper_bound { length out.new.items ≤ length out.old.items + 2 * length s.now }
+fn put_digits<O: Room>(out: &mut O, s: &[u8])
+    requires { 2 * length s.now ≤ left (O.held out.old) }
+    ensures put { O.held out.new ≡ put (digits_of s.now) (O.held out.old) }
+    ensures upper_bound { left (O.held out.old) ≤ left (O.held out.new) + 2 * length s.now }
+    ensures same { room_of (O.held out.new) ≡ room_of (O.held out.old) }
 {
     let mut rest = s;
     while let Some((part, behind)) = rest.split_first_chunk::<AT_ONCE>() {
@@ -152,10 +169,12 @@ fn put_digits<const N: usize>(out: &mut ArrayVec<u8, N>, s: &[u8])
 }
 
 // Bytes after a space; a dash for none.
-pub fn put_bytes<const N: usize>(out: &mut ArrayVec<u8, N>, s: &[u8])
-    requires { length out.old.items + most_bytes_word (length s.now) ≤ N }
-    ensures put { out.new.items ≡ out.old.items ++ bytes_word s.now }
-    ensures upper_bound { length out.new.items ≤ length out.old.items + most_bytes_word (length s.now) }
+#[tactic(auto, using(crate::proofs::Puts::put_put))]
+pub fn put_bytes<O: Room>(out: &mut O, s: &[u8])
+    requires { most_bytes_word (length s.now) ≤ left (O.held out.old) }
+    ensures put { O.held out.new ≡ put (bytes_word s.now) (O.held out.old) }
+    ensures upper_bound { left (O.held out.old) ≤ left (O.held out.new) + most_bytes_word (length s.now) }
+    ensures same { room_of (O.held out.new) ≡ room_of (O.held out.old) }
 {
     if s.is_empty() {
         put(out, b" -");
@@ -179,10 +198,12 @@ fn all_before(rest: &[u8]) -> bool
 }
 
 // The bytes written at the start of a lent buffer, after a space, and where another byte of it changed the word for that.
-pub fn put_written<const N: usize>(out: &mut ArrayVec<u8, N>, lent: &[u8], written: usize)
-    requires { length out.old.items + most_written_words (length lent.now) ≤ N }
-    ensures put { out.new.items ≡ out.old.items ++ written_words lent.now written }
-    ensures upper_bound { length out.new.items ≤ length out.old.items + most_written_words (length lent.now) }
+#[tactic(auto, using(crate::proofs::Puts::put_put))]
+pub fn put_written<O: Room>(out: &mut O, lent: &[u8], written: usize)
+    requires { most_written_words (length lent.now) ≤ left (O.held out.old) }
+    ensures put { O.held out.new ≡ put (written_words lent.now written) (O.held out.old) }
+    ensures upper_bound { left (O.held out.old) ≤ left (O.held out.new) + most_written_words (length lent.now) }
+    ensures same { room_of (O.held out.new) ≡ room_of (O.held out.old) }
 {
     let (first, rest) = lent.split_at(written.min(lent.len()));
     put_bytes(out, first);
@@ -203,22 +224,24 @@ pub fn written<W: Write, E: Write>(to: &mut W, err: &mut E, text: &[u8]) -> io::
 }
 
 // Makes room for so many bytes behind a text: where there is not enough, the text is written, and an empty one left.
-pub fn make_room<W: Write, E: Write, const N: usize>(
+pub fn make_room<W: Write, E: Write, O: Holds>(
     to: &mut W,
     err: &mut E,
-    out: &mut ArrayVec<u8, N>,
+    out: &mut O,
     most: usize,
 ) -> io::Result<()>
-    requires { most ≤ N }
-    ensures value { out.new.items ≡ held_of most N out.old.items }
-    ensures most_in_bounds { length out.new.items + most ≤ N }
-    ensures writes { OnOk result (RoomMade (W.contents to.old) (W.contents to.new) out.old.items out.new.items) }
+    requires { most ≤ (O.held out.old).size }
+    ensures value { O.held out.new ≡ room_for most (O.emptied out.old) (O.held out.old) }
+    ensures text { (O.held out.new).text ≡ held_of most (O.held out.old).size (O.held out.old).text }
+    ensures most_in_bounds { most ≤ left (O.held out.new) }
+    ensures same { room_of (O.held out.new) ≡ room_of (O.held out.old) }
+    ensures writes { OnOk result (RoomMade (W.contents to.old) (W.contents to.new) (O.held out.old).text (O.held out.new).text) }
 {
-    if most <= out.remaining_capacity() {
+    if most <= out.left() {
         return Ok(());
     }
-    let written = written(to, err, out.as_slice());
-    out.clear();
+    let written = written(to, err, out.text());
+    out.empty();
     written
 }
 
@@ -242,6 +265,7 @@ pub fn chosen_of<T: Copy>(word: &[u8], words: &[(&[u8], T)]) -> Option<T>
 #[cfg(test)]
 mod tests {
     use super::*;
+    use arrayvec::ArrayVec;
 
     // A text goes behind what the writer has.
     #[test]
@@ -260,6 +284,7 @@ mod tests {
     }
 
     // A text is written where more has no room behind it, and only there.
+    #[tactic(auto, unfolding(crate::specs::Text::left))]
     #[test]
     fn makes_room_where_there_is_none(rt: HostRuntime) {
         let mut to = ArrayVec::<u8, 8>::new();

@@ -1,3 +1,4 @@
 pub mod Answers
 pub mod Window
 pub mod MovedOnce
+pub mod Lies

@@ -1,6 +1,7 @@
 // A window on a file: a bounded buffer that is refilled, so that a file of any length is taken a part at a time.
 #![tactic(auto)]
 
+mod at_hand;
 mod input;
 
 ghost use Rattle.std.specs.Prelude.{◌≡◌, false, ◌+◌, ◌-◌, ◌≤◌, ◌<◌, length, take};
@@ -8,6 +9,7 @@ ghost use Rattle.window.specs.Answers.{Moved};
 ghost use Rattle.window.specs.Window.{empty_window, Within, unread, low_of, used_of, no_read, ended_by, failed_by, as_it_was};
 ghost use Rattle.window.specs.Window.{FilledFrom, RefilledFrom, ToppedUp};
 
+pub use at_hand::{AtHand, Lent};
 pub use input::Input;
 use std::env::FillError;
 use std::fs::Files;

@@ -3,7 +3,6 @@ use Prim.Native.Nat.{ℕ}
 use mathlib.Core.Path.{◌≡◌, sym, ap, ◌∙◌}
 use mathlib.Core.List.{List}
 use native.Mathlib.Omega.{arith}
-use borrow.Author.Rules.{rules}
 use lib.ListN.{length, drop, length-drop}
 use mathlib.Core.Bool.{true}
 use Rattle.std.specs.Prelude.{Option, None}
@@ -15,6 +14,7 @@ use Rattle.recorder_file.specs.declared.Progress.{Progress}
 use Rattle.trace.specs.Record.{size_of, record_bytes}
 use Rattle.recorded_answer.specs.Answer.{behind_of}
 use Rattle.recorded_answer.proofs.Answers.{behind_is}
+use Rattle.text.proofs.Puts.{text_after, put_by, put_none_by}
 use Rattle.recorder_file.proofs.Turns.{rest_is, answer_there, recorded_is, recorded_size, progress_of, none_at, stored_again, none_stored, writes_within, alone_turn, right_turn, wrong_turn}
 use Rattle.recorder_file.proofs.Progress.judged.Goals as goal
 use Rattle.recorder_file.proofs.Progress.judged.Goals.{in-Some-before, in_default-before}
@@ -24,7 +24,9 @@ returns-in_default g c =
     let a = c.args in
     let none : behind_of a.r (drop (size_of a.r) a.s.now) ≡ None =
     ap (behind_of a.r) (sym (rest_is a.s.now (size_of a.r))) ∙ sym c.in_default.ensures in
-    alone_turn a.self.now a.r a.s.now a.lent.now c.requires.2 c.made_on-answer.ensures none (cc)
+    let held = g.O.Holds.held a.out.now in
+    let taken = alone_turn a.self.now a.r a.s.now a.lent.now c.requires.2 c.made_on-answer.ensures none (cc) in
+    record { taken = taken; put = put_none_by held _ taken.put }
 
 pub slice_bounds-recorded-end : goal.slice_bounds-recorded-end
 slice_bounds-recorded-end g c = omega (arith, (behind_is c.args.r _ c.in-Some.a (sym c.in-Some.ensures)).fits)
@@ -44,8 +46,11 @@ pub returns-then-is_right : goal.returns-then-is_right
 returns-then-is_right g c =
     let a = c.args in
     let there = answer_there a.r a.s.now (sym c.in-Some.ensures) in
+    let held = g.O.Holds.held a.out.now in
+    let taken =
     right_turn a.self.now a.r a.s.now a.lent.now c.requires.2 c.made_on-answer.ensures c.in-Some.a there _
-    (recorded_is a.s.now (size_of a.r) c.in-Some.a) (sym c.is_right.ensures ∙ c.if-is_right.true) (cc)
+    (recorded_is a.s.now (size_of a.r) c.in-Some.a) (sym c.is_right.ensures ∙ c.if-is_right.true) (cc) in
+    record { taken = taken; put = put_none_by held _ taken.put }
 
 pub put_difference-requires : goal.put_difference-requires
 put_difference-requires g c =
@@ -54,15 +59,12 @@ put_difference-requires g c =
     let fits = behind_is a.r (drop (size_of a.r) a.s.now) c.in-Some.a there in
     let left = length-drop (size_of a.r) a.s.now in
     let size = ap (λ (l : List ℕ). length l) (recorded_is a.s.now (size_of a.r) c.in-Some.a) ∙ recorded_size a.r c.in-Some.a (drop (size_of a.r) a.s.now) there in (
-      search rules,
-      (
-        c.requires.3,
-        omega (arith, size, fits.answering.least),
-        omega (arith, size, fits.answering.most),
-        writes_within a.self.now a.r a.s.now a.lent.now c.requires.2 c.made_on-answer.ensures,
-        c.made_on-answer.auto.lent ∙ c.requires.2,
-        omega (arith, c.requires.1, c.requires.4),
-      ),
+      c.requires.3,
+      omega (arith, size, fits.answering.least),
+      omega (arith, size, fits.answering.most),
+      writes_within a.self.now a.r a.s.now a.lent.now c.requires.2 c.made_on-answer.ensures,
+      c.made_on-answer.auto.lent ∙ c.requires.2,
+      omega (arith, c.requires.1, c.requires.4),
     )
 
 pub returns : goal.returns
@@ -73,6 +75,10 @@ returns g c =
     let looked = c.get.ensures.lookup in
     let is = c.copied-before.ensures in
     let there = answer_there a.r a.s.now (sym c.in-Some.ensures) in
+    let held = g.O.Holds.held a.out.now in
+    let after = g.O.Holds.held c.put_difference.new.out in
+    let put = c.put_difference.ensures.put in
+    let taken =
     wrong_turn a.self.now a.r a.s.now a.lent.now c.requires.2 c.made_on-answer.ensures c.in-Some.a there _
     (recorded_is a.s.now (size_of a.r) c.in-Some.a) (sym c.is_right.ensures ∙ c.if-is_right.false)
     (elim c.match-before.branch [
@@ -83,4 +89,5 @@ returns g c =
           ∙ ap (λ (t : List Connection). progress_of t a.self.now.passed true) (none_stored a.self.now.table a.r bytes a.lent.now made
           (none_at _ _ c.get.result (sym is ∙ w.in_default-before.is) looked.3))
     ])
-    c.put_difference.ensures
+    (text_after held after _ put) in
+    record { taken = taken; put = put_by held after _ _ put taken.put }
