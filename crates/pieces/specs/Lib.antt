@@ -3,3 +3,4 @@ pub mod Machine
 pub mod Pieces
 pub mod Quiet
 pub mod InPlace
+pub mod Echo

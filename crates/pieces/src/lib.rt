@@ -8,13 +8,59 @@ ghost use Rattle.pieces.specs.Machine.{Machine, Lawful};
 ghost use Rattle.pieces.specs.Pieces.{waits, piece_from, TurnTaken, AdvancedTo, PieceOf, PrintedWhole};
 ghost use Rattle.pieces.specs.Quiet.{Quiet, PrintedAtOnce};
 
+#[cfg(test)]
+mod tests;
+
+use arrayvec::ArrayVec;
 use std::io;
 use std::io::{Read, Write};
 use text::{Holds, Room};
 use window::{AtHand, Input};
 
-// How far a program is that takes turns on the bytes of a file, with their text put into a room: the state of a machine.
-pub trait TakesTurns<O: Room> {
+// How far a program is that takes turns on the bytes of a file, with room for a text of so many bytes: the state of a machine.
+pub trait TakesTurns<const N: usize> {
+    ghost machine: { Machine Self };
+
+    // How many bytes the buffer has that is lent to the turns.
+    ghost lent_size: { ℕ };
+
+    // What the numbers of a state come to, which a turn adds to, and how much at most for each byte that it uses up.
+    ghost counted: { Self → ℕ };
+
+    ghost for_each: { ℕ };
+
+    ghost MOST_SEEN: { ℕ };
+
+    ghost MOST_TEXT: { ℕ };
+
+    // The most bytes that a turn looks at, and the most that it prints.
+    const MOST_SEEN: usize;
+
+    const MOST_TEXT: usize;
+
+    // Whether it takes no more turns.
+    fn stopped(&self) -> bool
+        ensures { result ≡ machine.stopped self.now };
+
+    // A turn on the bytes at hand, with its text put behind `out`: answers how many of them it used up.
+    fn turn(&mut self, s: &[u8], lent: &mut [u8], out: &mut ArrayVec<u8, N>) -> usize
+        requires goes { machine.stopped self.old ≡ false }
+        requires counts { counted self.old + for_each * length s.now < 2 ^ 64 }
+        requires lent_len { length lent.old ≡ lent_size }
+        requires room { length out.old.items + machine.most_text ≤ N }
+        ensures { TurnTaken (machine.turn self.old s.now) self.new lent.old lent.new out.old.items out.new.items result };
+
+    ghost lawful: { Lawful machine };
+
+    ghost sees: { machine.most_seen ≡ MOST_SEEN };
+
+    ghost prints: { machine.most_text ≡ MOST_TEXT };
+
+    ghost counts_on: { (p : Self) (s : List ℕ) → counted (machine.turn p s).next ≤ counted p + for_each * (machine.turn p s).used };
+}
+
+// The same of a program whose text may be put into any such room: what stands behind the text there is the machine's too.
+pub trait TakesTurnsIn<O: Room> {
     ghost machine: { Machine Self };
 
     // How many bytes the buffer has that is lent to the turns.
@@ -57,16 +103,53 @@ pub trait TakesTurns<O: Room> {
     ghost counts_on: { (p : Self) (s : List ℕ) → counted (machine.turn p s).next ≤ counted p + for_each * (machine.turn p s).used };
 }
 
+// One that takes its turns with an array for its text takes them in that array: nothing that could be seen stands behind the text there.
+impl<const N: usize, M: TakesTurns<N>> TakesTurnsIn<ArrayVec<u8, N>> for M {
+    ghost machine = { M.machine };
+
+    ghost lent_size = { M.lent_size };
+
+    ghost counted = { M.counted };
+
+    ghost for_each = { M.for_each };
+
+    ghost MOST_SEEN = { M.MOST_SEEN };
+
+    ghost MOST_TEXT = { M.MOST_TEXT };
+
+    ghost lawful = { M.lawful };
+
+    ghost sees = { M.sees };
+
+    ghost prints = { M.prints };
+
+    ghost counts_on = { M.counts_on };
+
+    const MOST_SEEN: usize = <M as TakesTurns<N>>::MOST_SEEN;
+
+    const MOST_TEXT: usize = <M as TakesTurns<N>>::MOST_TEXT;
+
+    fn stopped(&self) -> bool {
+        TakesTurns::stopped(self)
+    }
+
+    #[tactic(auto, using(text::proofs::Rooms::array_put), unfolding(text::specs::Text::left))]
+    fn turn(&mut self, s: &[u8], lent: &mut [u8], out: &mut ArrayVec<u8, N>) -> usize {
+        let _within = out.remaining_capacity();
+        TakesTurns::turn(self, s, lent, out)
+    }
+}
+
 // Whether it waits: it has stopped, or is to be refilled, or has no room for what a turn prints.
 #[tactic(auto, unfolding(crate::specs::Pieces::waits))]
-fn waits<O: Room, I: AtHand, M: TakesTurns<O>>(state: &M, input: &I, room: usize) -> bool
+fn waits<O: Room, I: AtHand, M: TakesTurnsIn<O>>(state: &M, input: &I, room: usize) -> bool
     ensures { result ≡ waits M.machine (M.machine.stopped state.now) (I.window input.now) room }
 {
     state.stopped() || input.low(M::MOST_SEEN) || room < M::MOST_TEXT
 }
 
 // Turns on the bytes at hand until it waits.
-pub fn advance<O: Room, I: AtHand, M: TakesTurns<O>>(
+pub fn advance<O: Room, I: AtHand, M: TakesTurnsIn<O>>(
     state: &mut M,
     input: &mut I,
     lent: &mut [u8],
@@ -90,7 +173,7 @@ pub fn advance<O: Room, I: AtHand, M: TakesTurns<O>>(
 }
 
 // One piece of a file: room for what a turn prints, the input topped up, and as many turns as it holds bytes for.
-pub fn piece<O: Room, const B: usize, M: TakesTurns<O>, R: Read, W: Write, E: Write>(
+pub fn piece<O: Room, const B: usize, M: TakesTurnsIn<O>, R: Read, W: Write, E: Write>(
     state: &mut M,
     file: &mut R,
     to: &mut W,
@@ -116,7 +199,7 @@ pub fn piece<O: Room, const B: usize, M: TakesTurns<O>, R: Read, W: Write, E: Wr
 
 // A piece of a file at a time, from its first one, until it stops; none where a piece can't be read, or its text not be written, and where
 // it has not stopped after so many: a proved loop has to end, and nothing says that a file does.
-pub fn run<O: Room, const B: usize, M: TakesTurns<O>, R: Read, W: Write, E: Write>(
+pub fn run<O: Room, const B: usize, M: TakesTurnsIn<O>, R: Read, W: Write, E: Write>(
     state: &mut M,
     file: &mut R,
     to: &mut W,

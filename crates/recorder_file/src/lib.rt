@@ -32,7 +32,7 @@ ghost use Rattle.recorder_file.specs.declared.Verdict.{Verdict};
 use calls::Answer;
 use clock::Age;
 use connection::Connection;
-use pieces::TakesTurns;
+use pieces::TakesTurnsIn;
 use recorded_answer::{ANSWER_FIELDS_SIZE, Fields, LEAST_BYTES, MOST_BYTES};
 use table::MOST_RECORDS;
 use text::Room;
@@ -140,7 +140,7 @@ impl Progress {
     }
 }
 
-impl<O: Room> TakesTurns<O> for Progress {
+impl<O: Room> TakesTurnsIn<O> for Progress {
     ghost use Rattle.std.specs.Prelude.{refl};
     ghost use Rattle.recorder_file.specs.Check.{most_seen, checker};
     ghost use Rattle.recorder_file.specs.Laws.{check_laws, check_counts};

@@ -77,13 +77,31 @@ module _ (p : Progress) (r : Record) (size : length p.table ≡ most_records) (r
         uses = refl;
       }
 
--- a whole record on 64 slots: its call on the table, and its line, by whether its slot is one
+-- a whole record: its call on the table, however many slots that has, and its line
 pub whole_turn : (p : Progress) (s lent out : List ℕ) (r : Record) → record_of s ≡ Whole r → length lent ≡ room → p.stopped ≡ false
+    → {a : Answer} {table : List Connection} {lent_after out_after : List ℕ} → leaves_at a table lent_after ≡ made_on p.table r (record_bytes s r) lent
+    → out_after ≡ out ++ line_of r.slot a.number a.age
+    → TurnTaken (turn_of p s) (progress_of table (p.count + 1) p.stopped) lent lent_after out out_after (size_of r)
+whole_turn p s lent out r is size goes {a} {table} {lent_after} {out_after} left put =
+    let any = whatever_out_holds p.table r (record_bytes s r) lent size in
+    let text = put ∙ ap (λ (b : Answer). out ++ line_of r.slot b.number b.age) (ap (λ (l : LeftAt). l.answer) left ∙ any.0) in
+    subst (λ (n : Next). TurnTaken (turn_on p n s) (progress_of table (p.count + 1) p.stopped) lent lent_after out out_after (size_of r)) (sym is)
+    (record {
+      state =
+          ap (λ (t : List Connection). progress_of t (p.count + 1) p.stopped) (ap (λ (l : LeftAt). l.table) left ∙ any.1)
+          ∙ ap (progress_of (made_on p.table r (record_bytes s r) any_out).table (p.count + 1)) goes;
+      leaves = ap (λ (l : LeftAt). l.out) left;
+      put = text;
+      uses = refl;
+    })
+
+-- a whole record on 64 slots: its call on the table, and its line, by whether its slot is one
+pub slot_turn : (p : Progress) (s lent out : List ℕ) (r : Record) → record_of s ≡ Whole r → length lent ≡ room → p.stopped ≡ false
     → length p.table ≡ most_records
     → {a : Answer} {table : List Connection} {lent_after out_after : List ℕ} → leaves_at a table lent_after ≡ made_on p.table r (record_bytes s r) lent
     → out_after ≡ out ++ line_of r.slot a.number a.age
     → TurnTaken (turn_of p s) (progress_of table (p.count + 1) p.stopped) lent lent_after out out_after (size_of r)
-whole_turn p s lent out r is room-lent goes size {a} {table} {lent_after} {out_after} left put =
+slot_turn p s lent out r is room-lent goes size {a} {table} {lent_after} {out_after} left put =
     subst (λ (n : Next). TurnTaken (turn_on p n s) (progress_of table (p.count + 1) p.stopped) lent lent_after out out_after (size_of r)) (sym is)
     (subst (λ (b : Bool). TurnTaken (turn_on p (Whole r) s) (progress_of table (p.count + 1) b) lent lent_after out out_after (size_of r)) (sym goes)
     (by (cases_lt r.slot most_records)))

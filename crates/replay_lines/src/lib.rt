@@ -11,7 +11,7 @@ mod tests;
 
 use clock::Age;
 use connection::Connection;
-use pieces::TakesTurns;
+use pieces::TakesTurnsIn;
 use table::MOST_RECORDS;
 use text::Room;
 use trace::{FIELDS_SIZE, MOST_RECORD, Next};
@@ -74,7 +74,7 @@ fn put_bad<O: Room>(out: &mut O, count: u64)
     text::put_end(out, count);
 }
 
-impl<O: Room> TakesTurns<O> for Progress {
+impl<O: Room> TakesTurnsIn<O> for Progress {
     ghost use Rattle.std.specs.Prelude.{refl};
     ghost use Rattle.trace.specs.Record.{most_record};
     ghost use Rattle.trace.specs.Call.{room};

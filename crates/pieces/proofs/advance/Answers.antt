@@ -8,8 +8,8 @@ use Rattle.pieces.proofs.advance.Goals as goal
 
 pub loop-state-init : goal.loop-state-init
 loop-state-init g c =
-    let m = g.M.TakesTurns in
-    let laws = g.met.M.TakesTurns in
+    let m = g.M.TakesTurnsIn in
+    let laws = g.met.M.TakesTurnsIn in
     let a = c.args in
     let held = g.O.Holds.held a.out.now in
     record {
@@ -23,8 +23,8 @@ loop-state-init g c =
 
 pub turn-used-requires : goal.turn-used-requires
 turn-used-requires g c =
-    let m = g.M.TakesTurns in
-    let laws = g.met.M.TakesTurns in
+    let m = g.M.TakesTurnsIn in
+    let laws = g.met.M.TakesTurnsIn in
     let a = c.args in
     let buffer = g.I.AtHand.buffer a.input.now in
     let window = g.I.AtHand.window a.input.now in
@@ -39,8 +39,8 @@ turn-used-requires g c =
 
 pub use_up-requires : goal.use_up-requires
 use_up-requires g c =
-    let m = g.M.TakesTurns in
-    let laws = g.met.M.TakesTurns in
+    let m = g.M.TakesTurnsIn in
+    let laws = g.met.M.TakesTurnsIn in
     let a = c.args in
     let buffer = g.I.AtHand.buffer a.input.now in
     let window = g.I.AtHand.window a.input.now in
@@ -53,8 +53,8 @@ use_up-requires g c =
 
 pub loop-state-smaller : goal.loop-state-smaller
 loop-state-smaller g c =
-    let m = g.M.TakesTurns in
-    let laws = g.met.M.TakesTurns in
+    let m = g.M.TakesTurnsIn in
+    let laws = g.met.M.TakesTurnsIn in
     let a = c.args in
     let buffer = g.I.AtHand.buffer a.input.now in
     let window = g.I.AtHand.window a.input.now in
@@ -67,8 +67,8 @@ loop-state-smaller g c =
 
 pub loop-state-preserved : goal.loop-state-preserved
 loop-state-preserved g c =
-    let m = g.M.TakesTurns in
-    let laws = g.met.M.TakesTurns in
+    let m = g.M.TakesTurnsIn in
+    let laws = g.met.M.TakesTurnsIn in
     let a = c.args in
     let buffer = g.I.AtHand.buffer a.input.now in
     let window = g.I.AtHand.window a.input.now in
@@ -88,8 +88,8 @@ loop-state-preserved g c =
 
 pub returns-clause-advanced : goal.returns-clause-advanced
 returns-clause-advanced g c =
-    let m = g.M.TakesTurns in
-    let laws = g.met.M.TakesTurns in
+    let m = g.M.TakesTurnsIn in
+    let laws = g.met.M.TakesTurnsIn in
     let a = c.args in
     let buffer = g.I.AtHand.buffer a.input.now in
     let window = g.I.AtHand.window a.input.now in
@@ -102,8 +102,8 @@ returns-clause-advanced g c =
 pub returns-clause-put : goal.returns-clause-put
 unfolding left
 returns-clause-put g c =
-    let m = g.M.TakesTurns in
-    let laws = g.met.M.TakesTurns in
+    let m = g.M.TakesTurnsIn in
+    let laws = g.met.M.TakesTurnsIn in
     let a = c.args in
     let buffer = g.I.AtHand.buffer a.input.now in
     let window = g.I.AtHand.window a.input.now in

@@ -9,8 +9,8 @@ use Rattle.pieces.proofs.advance.Given as goal
 
 abbrev pub invariant-loop-state : goal.invariant-loop-state
 invariant-loop-state g l =
-    let m = g.M.TakesTurns in
-    let laws = g.met.M.TakesTurns in
+    let m = g.M.TakesTurnsIn in
+    let laws = g.met.M.TakesTurnsIn in
     let hand = g.I.AtHand in
     let held = g.O.Holds.held in
     let was = l.initial in
@@ -23,4 +23,4 @@ invariant-loop-state g l =
     }
 
 abbrev pub decreases-loop-state : goal.decreases-loop-state
-decreases-loop-state g l = turns_left (g.M.TakesTurns.machine.stopped l.state) (left_of (g.I.AtHand.window l.input))
+decreases-loop-state g l = turns_left (g.M.TakesTurnsIn.machine.stopped l.state) (left_of (g.I.AtHand.window l.input))

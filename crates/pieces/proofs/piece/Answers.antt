@@ -6,8 +6,8 @@ use Rattle.pieces.proofs.piece.Goals as goal
 
 pub returns-clause-piece : goal.returns-clause-piece
 returns-clause-piece g c =
-    let m = g.M.TakesTurns in
-    let laws = g.met.M.TakesTurns in
+    let m = g.M.TakesTurnsIn in
+    let laws = g.met.M.TakesTurnsIn in
     let a = c.args in
     let held = g.O.Holds.held in
     let room = c.make_room in

@@ -4,8 +4,8 @@ use native.Mathlib.Omega.{arith}
 use Rattle.text.proofs.Puts.{text_after, put_by}
 use Rattle.trace.proofs.Records.{whole_fits}
 use Rattle.recorder_file.proofs.Turns.{end_turn, bad_turn}
-use Rattle.recorder_file.proofs.ProgressTakesTurns.turn.Goals as goal
-use Rattle.recorder_file.proofs.ProgressTakesTurns.turn.Goals.{in-End, in-Bad}
+use Rattle.recorder_file.proofs.ProgressTakesTurnsIn.turn.Goals as goal
+use Rattle.recorder_file.proofs.ProgressTakesTurnsIn.turn.Goals.{in-End, in-Bad}
 
 pub judged-requires : goal.judged-requires
 judged-requires g c = (
