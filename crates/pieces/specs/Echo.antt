@@ -5,14 +5,23 @@ use Rattle.std.proofs.Common.{refl, sym, arith}
 use mathlib.Core.Bool.{false≢true}
 use Rattle.pieces.specs.Machine.{Turn, Machine, Lawful}
 
+-- TRACE-16: a turn of it
 unfoldable pub echo_turn : List ℕ → Turn Bool
 echo_turn [] = record { text = []; used = 0; next = true; lent = λ lent. lent }
 echo_turn (byte ∷ rest) = record { text = byte ∷ []; used = 1; next = false; lent = λ lent. lent }
 
--- its state is whether it has stopped
+-- TRACE-16: the machine, whose state is whether it has stopped
 abbrev pub echo : Machine Bool
-echo = record { first = false; heading = []; stopped = λ stopped. stopped; turn = λ stopped rest. echo_turn rest; most_seen = 1; most_text = 1 }
+echo = record {
+  first = false;
+  heading = [];
+  stopped = λ stopped. stopped;
+  turn = λ stopped rest. echo_turn rest;
+  most_seen = 1;
+  most_text = 1;
+}
 
+-- what is asked of its turns
 uses_no_more : (rest : List ℕ) → (echo_turn rest).used ≤ length rest
 unfolding echo_turn
 uses_no_more [] = omega arith

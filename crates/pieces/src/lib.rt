@@ -59,7 +59,7 @@ pub trait TakesTurns<const N: usize> {
     ghost counts_on: { (p : Self) (s : List ℕ) → counted (machine.turn p s).next ≤ counted p + for_each * (machine.turn p s).used };
 }
 
-// The same of a program whose text may be put into any such room: what stands behind the text there is the machine's too.
+// How far a program is that takes turns on the bytes of a file, with their text put into a room: the state of a machine.
 pub trait TakesTurnsIn<O: Room> {
     ghost machine: { Machine Self };
 
@@ -103,7 +103,7 @@ pub trait TakesTurnsIn<O: Room> {
     ghost counts_on: { (p : Self) (s : List ℕ) → counted (machine.turn p s).next ≤ counted p + for_each * (machine.turn p s).used };
 }
 
-// One that takes its turns with an array for its text takes them in that array: nothing that could be seen stands behind the text there.
+// An array of so many bytes is such a room: nothing that can be seen stands behind its text.
 impl<const N: usize, M: TakesTurns<N>> TakesTurnsIn<ArrayVec<u8, N>> for M {
     ghost machine = { M.machine };
 
@@ -135,6 +135,7 @@ impl<const N: usize, M: TakesTurns<N>> TakesTurnsIn<ArrayVec<u8, N>> for M {
 
     #[tactic(auto, using(text::proofs::Rooms::array_put), unfolding(text::specs::Text::left))]
     fn turn(&mut self, s: &[u8], lent: &mut [u8], out: &mut ArrayVec<u8, N>) -> usize {
+        // An array holds no more than its size, as the kit says of what is left.
         let _within = out.remaining_capacity();
         TakesTurns::turn(self, s, lent, out)
     }

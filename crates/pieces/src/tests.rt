@@ -63,8 +63,14 @@ fn takes_turns_with_an_array(rt: HostRuntime) {
     };
     let mut small = ArrayVec::<u8, 2>::new();
     advance(&mut stopped, &mut hand, &mut [], &mut small);
-    assert!(rt; !stopped && small.as_slice() == b"ab".as_slice() && hand.window.from == 2, "no more has room");
+    assert!(rt;
+        !stopped && small.as_slice() == b"ab".as_slice() && hand.window.from == 2,
+        "no more has room"
+    );
     let mut out = ArrayVec::<u8, 4>::new();
     advance(&mut stopped, &mut hand, &mut [], &mut out);
-    assert!(rt; stopped && out.as_slice() == b"c".as_slice() && hand.window.from == 3, "none is left");
+    assert!(rt;
+        stopped && out.as_slice() == b"c".as_slice() && hand.window.from == 3,
+        "none is left"
+    );
 }
