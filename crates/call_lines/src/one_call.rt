@@ -114,6 +114,7 @@ fn make_call(c: Connection, given: OneCall, bytes: &[u8], out: &mut [u8]) -> Cal
 fn put_number<O: Room>(out: &mut O, number: u16, released: bool)
     requires { most_number_text ≤ left (O.held out.old) }
     ensures upper_bound { left (O.held out.old) ≤ left (O.held out.new) + most_number_text }
+    ensures text_bound { length (O.held out.new).text ≤ length (O.held out.old).text + most_number_text }
     ensures same { room_of (O.held out.new) ≡ room_of (O.held out.old) }
 {
     text::put_decimal(out, u64::from(number));
@@ -133,6 +134,7 @@ fn delivered_of(bytes: &[u8], count: usize) -> &[u8]
 fn put_delivered<O: Room>(out: &mut O, bytes: &[u8], count: usize)
     requires { (length bytes.now ≤ most_call_bytes) × (most_delivered_text ≤ left (O.held out.old)) }
     ensures upper_bound { left (O.held out.old) ≤ left (O.held out.new) + most_delivered_text }
+    ensures text_bound { length (O.held out.new).text ≤ length (O.held out.old).text + most_delivered_text }
     ensures same { room_of (O.held out.new) ≡ room_of (O.held out.old) }
 {
     if count == 0 {
@@ -148,6 +150,7 @@ fn put_delivered<O: Room>(out: &mut O, bytes: &[u8], count: usize)
 pub fn put_answer<O: Room>(out: &mut O, answer: Answer, bytes: &[u8], lent: &[u8])
     requires { CallFits bytes.now lent.now × (most_answer_text ≤ left (O.held out.old)) }
     ensures upper_bound { left (O.held out.old) ≤ left (O.held out.new) + most_answer_text }
+    ensures text_bound { length (O.held out.new).text ≤ length (O.held out.old).text + most_answer_text }
     ensures same { room_of (O.held out.new) ≡ room_of (O.held out.old) }
 {
     put_number(out, answer.number, answer.released);
@@ -160,6 +163,7 @@ pub fn put_answer<O: Room>(out: &mut O, answer: Answer, bytes: &[u8], lent: &[u8
 fn put_line<O: Room>(out: &mut O, made: Called, bytes: &[u8], lent: &[u8])
     requires { CallFits bytes.now lent.now × (most_call_text ≤ left (O.held out.old)) }
     ensures upper_bound { left (O.held out.old) ≤ left (O.held out.new) + most_call_text }
+    ensures text_bound { length (O.held out.new).text ≤ length (O.held out.old).text + most_call_text }
     ensures same { room_of (O.held out.new) ≡ room_of (O.held out.old) }
 {
     put_answer(out, made.answer, bytes, lent);
@@ -171,6 +175,7 @@ fn put_line<O: Room>(out: &mut O, made: Called, bytes: &[u8], lent: &[u8])
 pub fn call_at<O: Room>(s: &[u8], out: &mut O) -> Option<usize>
     requires { most_call_text ≤ left (O.held out.old) }
     ensures text { left (O.held out.old) ≤ left (O.held out.new) + most_call_text }
+    ensures text_bound { length (O.held out.new).text ≤ length (O.held out.old).text + most_call_text }
     ensures same { room_of (O.held out.new) ≡ room_of (O.held out.old) }
     ensures used { IfSome result (λ used. used ≤ length s.now) }
 {

@@ -108,6 +108,7 @@ fn make_call(
 fn put_records<O: Room>(out: &mut O, table: &[Connection])
     requires { length table.now * most_record_text ≤ left (O.held out.old) }
     ensures upper_bound { left (O.held out.old) ≤ left (O.held out.new) + length table.now * most_record_text }
+    ensures text_bound { length (O.held out.new).text ≤ length (O.held out.old).text + length table.now * most_record_text }
     ensures same { room_of (O.held out.new) ≡ room_of (O.held out.old) }
 {
     for c in table {
@@ -120,6 +121,7 @@ fn put_line<O: Room>(out: &mut O, answer: Answer, table: &[Connection], bytes: &
     requires call_fits { CallFits bytes.now lent.now × (length table.now ≤ records) }
     requires most_table_text_in_bounds { most_table_text ≤ left (O.held out.old) }
     ensures upper_bound { left (O.held out.old) ≤ left (O.held out.new) + most_table_text }
+    ensures text_bound { length (O.held out.new).text ≤ length (O.held out.old).text + most_table_text }
     ensures same { room_of (O.held out.new) ≡ room_of (O.held out.old) }
 {
     one_call::put_answer(out, answer, bytes, lent);
@@ -131,6 +133,7 @@ fn put_line<O: Room>(out: &mut O, answer: Answer, table: &[Connection], bytes: &
 pub fn table_at<O: Room>(s: &[u8], out: &mut O) -> Option<usize>
     requires { most_table_text ≤ left (O.held out.old) }
     ensures text { left (O.held out.old) ≤ left (O.held out.new) + most_table_text }
+    ensures text_bound { length (O.held out.new).text ≤ length (O.held out.old).text + most_table_text }
     ensures same { room_of (O.held out.new) ≡ room_of (O.held out.old) }
     ensures used { IfSome result (λ used. used ≤ length s.now) }
 {

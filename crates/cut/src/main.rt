@@ -124,7 +124,7 @@ fn both_topped_up<R: Read, E: Write>(
 
 // Writes the rest of the text: with what was written before, it is what is printed for the bytes that were read of both files, by what the
 // steps go by (recording's proofs/Turns), which is here for the contract alone. No contract can say what is read from a file or written to
-// one: that the calls which read hand over a file's next bytes is all that stands between the files and the printed text. What `make_room`
+// one: that the calls which read hand over a file's next bytes is all that stands between the files and the printed text. What `make_room_in`
 // and `written` write, their contracts say of a writer whose bytes are known.
 fn finish<W: Write, E: Write>(to: &mut W, err: &mut E, out: &[u8], told: Told) -> Option<()>
     requires { PrintedWhole told.callers.now told.ours told.state out.now }
@@ -143,7 +143,7 @@ fn put_last<W: Write, E: Write, const N: usize>(
     requires most_line_in_bounds { most_line ≤ N }
     requires printed_to_the_end { PrintedToTheEnd told.callers.now told.ours told.state out.old.items handed_up }
 {
-    text::make_room(to, err, out, MOST_LINE).ok()?;
+    text::make_room_in(to, err, out, MOST_LINE).ok()?;
     text::put_end(out, handed_up);
     finish(to, err, out.as_slice(), told)
 }
@@ -170,7 +170,7 @@ fn turn<R: Read, W: Write, E: Write, const N: usize>(
         × Lies after (length normal.old) (length redundant.old) × (after.handed_up ≤ p.handed_up + 1)
         × BothMovedNoMore after (length normal.old) (length redundant.old)) }
 {
-    text::make_room(to, err, out, MOST_LINE).ok()?;
+    text::make_room_in(to, err, out, MOST_LINE).ok()?;
     let lent = both_topped_up(files, err, normal, redundant, p)?;
     Some(recording::advance(normal, redundant, out, told.callers, told.ours, lent))
 }

@@ -63,6 +63,7 @@ impl Packet {
 fn put_packet<O: Room>(out: &mut O, given: Packet, data: &[u8], lent: &mut [u8])
     requires { (length lent.old ≤ most_packet_room) × (most_packet_text ≤ left (O.held out.old)) }
     ensures upper_bound { left (O.held out.old) ≤ left (O.held out.new) + most_packet_text }
+    ensures text_bound { length (O.held out.new).text ≤ length (O.held out.old).text + most_packet_text }
     ensures same { room_of (O.held out.new) ≡ room_of (O.held out.old) }
 {
     let made = given.write(data, lent);
@@ -75,6 +76,7 @@ fn put_packet<O: Room>(out: &mut O, given: Packet, data: &[u8], lent: &mut [u8])
 pub fn packet_at<O: Room>(s: &[u8], out: &mut O) -> Option<usize>
     requires { most_packet_text ≤ left (O.held out.old) }
     ensures text { left (O.held out.old) ≤ left (O.held out.new) + most_packet_text }
+    ensures text_bound { length (O.held out.new).text ≤ length (O.held out.old).text + most_packet_text }
     ensures same { room_of (O.held out.new) ≡ room_of (O.held out.old) }
     ensures used { IfSome result (λ used. used ≤ length s.now) }
 {

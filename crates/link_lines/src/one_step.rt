@@ -87,6 +87,7 @@ impl Step {
 fn put_state<O: Room>(out: &mut O, state: State)
     requires { most_state_text ≤ left (O.held out.old) }
     ensures upper_bound { left (O.held out.old) ≤ left (O.held out.new) + most_state_text }
+    ensures text_bound { length (O.held out.new).text ≤ length (O.held out.old).text + most_state_text }
     ensures same { room_of (O.held out.new) ≡ room_of (O.held out.old) }
 {
     text::put(out, b"state");
@@ -100,6 +101,7 @@ fn put_state<O: Room>(out: &mut O, state: State)
 fn put_place<O: Room>(out: &mut O, taken: Taken)
     requires { most_place_text ≤ left (O.held out.old) }
     ensures upper_bound { left (O.held out.old) ≤ left (O.held out.new) + most_place_text }
+    ensures text_bound { length (O.held out.new).text ≤ length (O.held out.old).text + most_place_text }
     ensures same { room_of (O.held out.new) ≡ room_of (O.held out.old) }
 {
     text::put_number(out, u64::from(taken.version));
@@ -112,6 +114,7 @@ fn put_place<O: Room>(out: &mut O, taken: Taken)
 fn put_data<O: Room>(out: &mut O, data: &[u8])
     requires { most_data_text (length «data».now) ≤ left (O.held out.old) }
     ensures upper_bound { left (O.held out.old) ≤ left (O.held out.new) + most_data_text (length «data».now) }
+    ensures text_bound { length (O.held out.new).text ≤ length (O.held out.old).text + most_data_text (length «data».now) }
     ensures same { room_of (O.held out.new) ≡ room_of (O.held out.old) }
 {
     text::put(out, b"data");
@@ -123,6 +126,7 @@ fn put_data<O: Room>(out: &mut O, data: &[u8])
 fn put_taken<O: Room>(out: &mut O, taken: Taken, data: &[u8])
     requires { most_taken_text (length «data».now) ≤ left (O.held out.old) }
     ensures upper_bound { left (O.held out.old) ≤ left (O.held out.new) + most_taken_text (length «data».now) }
+    ensures text_bound { length (O.held out.new).text ≤ length (O.held out.old).text + most_taken_text (length «data».now) }
     ensures same { room_of (O.held out.new) ≡ room_of (O.held out.old) }
 {
     recording::put_line(out, taken);
@@ -185,6 +189,7 @@ impl<'a> Lent<'a> {
 fn put_step<O: Room>(out: &mut O, lent: Lent)
     requires { NoLonger lent.normal.now lent.redundant.now × (most_step_text ≤ left (O.held out.old)) }
     ensures upper_bound { left (O.held out.old) ≤ left (O.held out.new) + most_step_text }
+    ensures text_bound { length (O.held out.new).text ≤ length (O.held out.old).text + most_step_text }
     ensures same { room_of (O.held out.new) ≡ room_of (O.held out.old) }
 {
     let (taken, data) = lent.take();
@@ -197,6 +202,7 @@ fn put_step<O: Room>(out: &mut O, lent: Lent)
 pub fn step_at<O: Room>(s: &[u8], out: &mut O) -> Option<usize>
     requires { most_step_text ≤ left (O.held out.old) }
     ensures text { left (O.held out.old) ≤ left (O.held out.new) + most_step_text }
+    ensures text_bound { length (O.held out.new).text ≤ length (O.held out.old).text + most_step_text }
     ensures same { room_of (O.held out.new) ≡ room_of (O.held out.old) }
     ensures used { IfSome result (λ used. used ≤ length s.now) }
 {

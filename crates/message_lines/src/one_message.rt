@@ -19,6 +19,7 @@ pub const MOST_ROOM: usize = 2048;
 fn put_header<O: Room>(out: &mut O, h: Header)
     requires { most_header_text ≤ left (O.held out.old) }
     ensures upper_bound { left (O.held out.old) ≤ left (O.held out.new) + most_header_text }
+    ensures text_bound { length (O.held out.new).text ≤ length (O.held out.old).text + most_header_text }
     ensures same { room_of (O.held out.new) ≡ room_of (O.held out.old) }
 {
     text::put_decimal(out, u64::from(h.kind));
@@ -32,6 +33,7 @@ fn put_header<O: Room>(out: &mut O, h: Header)
 fn put_offsets<O: Room>(out: &mut O, t: Tail)
     requires { most_after_text ≤ left (O.held out.old) }
     ensures upper_bound { left (O.held out.old) ≤ left (O.held out.new) + most_after_text }
+    ensures text_bound { length (O.held out.new).text ≤ length (O.held out.old).text + most_after_text }
     ensures same { room_of (O.held out.new) ≡ room_of (O.held out.old) }
 {
     text::put_centred(out, t.min);
@@ -42,6 +44,7 @@ fn put_offsets<O: Room>(out: &mut O, t: Tail)
 fn put_after<O: Room>(out: &mut O, kind: u8, t: Tail)
     requires { most_after_text ≤ left (O.held out.old) }
     ensures upper_bound { left (O.held out.old) ≤ left (O.held out.new) + most_after_text }
+    ensures text_bound { length (O.held out.new).text ≤ length (O.held out.old).text + most_after_text }
     ensures same { room_of (O.held out.new) ≡ room_of (O.held out.old) }
 {
     match kind {
@@ -57,6 +60,7 @@ fn put_after<O: Room>(out: &mut O, kind: u8, t: Tail)
 fn put_back<O: Room>(out: &mut O, message: Message, s: &[u8])
     requires { most_back_text ≤ left (O.held out.old) }
     ensures upper_bound { left (O.held out.old) ≤ left (O.held out.new) + most_back_text }
+    ensures text_bound { length (O.held out.new).text ≤ length (O.held out.old).text + most_back_text }
     ensures same { room_of (O.held out.new) ≡ room_of (O.held out.old) }
 {
     let mut lent = [text::BEFORE; MOST_ROOM];
@@ -69,6 +73,7 @@ fn put_back<O: Room>(out: &mut O, message: Message, s: &[u8])
 fn put_message<O: Room>(out: &mut O, s: &[u8])
     requires { most_message_text ≤ left (O.held out.old) }
     ensures upper_bound { left (O.held out.old) ≤ left (O.held out.new) + most_message_text }
+    ensures text_bound { length (O.held out.new).text ≤ length (O.held out.old).text + most_message_text }
     ensures same { room_of (O.held out.new) ≡ room_of (O.held out.old) }
 {
     let Some(message) = message::parse(s) else {
@@ -85,6 +90,7 @@ fn put_message<O: Room>(out: &mut O, s: &[u8])
 pub fn message_at<O: Room>(s: &[u8], out: &mut O) -> Option<usize>
     requires { most_message_text ≤ left (O.held out.old) }
     ensures text { left (O.held out.old) ≤ left (O.held out.new) + most_message_text }
+    ensures text_bound { length (O.held out.new).text ≤ length (O.held out.old).text + most_message_text }
     ensures same { room_of (O.held out.new) ≡ room_of (O.held out.old) }
     ensures used { IfSome result (λ used. used ≤ length s.now) }
 {

@@ -192,7 +192,7 @@ pub fn piece<O: Room, const B: usize, M: TakesTurnsIn<O>, R: Read, W: Write, E: 
     ensures counts { OnOk result (M.counted state.new ≤ M.counted state.old + M.for_each * B) }
     ensures same { room_of (O.held out.new) ≡ room_of (O.held out.old) }
 {
-    text::make_room(to, err, out, M::MOST_TEXT)?;
+    text::make_room_in(to, err, out, M::MOST_TEXT)?;
     input.top_up(file, err, name, M::MOST_SEEN).got?;
     advance(state, input, lent, out);
     Ok(())

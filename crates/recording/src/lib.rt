@@ -73,6 +73,7 @@ fn put_link<O: Room>(out: &mut O, normal: bool)
     requires { most_link_name ≤ left (O.held out.old) }
     ensures put { O.held out.new ≡ put (link_name normal) (O.held out.old) }
     ensures upper_bound { left (O.held out.old) ≤ left (O.held out.new) + most_link_name }
+    ensures text_bound { length (O.held out.new).text ≤ length (O.held out.old).text + most_link_name }
     ensures same { room_of (O.held out.new) ≡ room_of (O.held out.old) }
 {
     if normal {
@@ -88,6 +89,7 @@ fn put_handed_up<O: Room>(out: &mut O, kind: u8, number: u16, size: usize)
     requires { most_handed_up ≤ left (O.held out.old) }
     ensures put { O.held out.new ≡ put (handed_up_text kind number size) (O.held out.old) }
     ensures upper_bound { left (O.held out.old) ≤ left (O.held out.new) + most_handed_up }
+    ensures text_bound { length (O.held out.new).text ≤ length (O.held out.old).text + most_handed_up }
     ensures same { room_of (O.held out.new) ≡ room_of (O.held out.old) }
 {
     text::put_number(out, u64::from(kind));
@@ -103,6 +105,7 @@ fn put_counted<O: Room>(out: &mut O, taken: Taken, size: usize)
     requires size_value { size ≡ taken.size }
     ensures put { O.held out.new ≡ put (line_of taken) (O.held out.old) }
     ensures upper_bound { left (O.held out.old) ≤ left (O.held out.new) + most_line }
+    ensures text_bound { length (O.held out.new).text ≤ length (O.held out.old).text + most_line }
     ensures same { room_of (O.held out.new) ≡ room_of (O.held out.old) }
 {
     put_link(out, taken.normal);
@@ -116,6 +119,7 @@ pub fn put_line<O: Room>(out: &mut O, taken: Taken)
     requires { most_line ≤ left (O.held out.old) }
     ensures put { O.held out.new ≡ put (line_of taken) (O.held out.old) }
     ensures upper_bound { left (O.held out.old) ≤ left (O.held out.new) + most_line }
+    ensures text_bound { length (O.held out.new).text ≤ length (O.held out.old).text + most_line }
     ensures same { room_of (O.held out.new) ≡ room_of (O.held out.old) }
 {
     put_counted(out, taken, taken.size);
@@ -226,6 +230,7 @@ pub fn advance<'a, O: Room>(
     ensures same { room_of (O.held out.new) ≡ room_of (O.held out.old) }
     ensures lies_2 { Lies result (length normal.now) (length redundant.now)
         × (result.handed_up ≤ p.handed_up + 1) × (left (O.held out.old) ≤ left (O.held out.new) + most_line) }
+    ensures text_bound { length (O.held out.new).text ≤ length (O.held out.old).text + most_line }
 {
     let taken = taken_at(normal, redundant, callers, ours, p);
     let size = count_data(normal, redundant, p, taken);

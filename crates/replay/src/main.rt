@@ -19,7 +19,7 @@ const MOST_PIECES: u64 = 0x8000_0000_0000;
 // Writes the rest of the text: with some text before it, it is what the replay prints for some bytes (`PrintedWhole`). In `pieces::run`'s
 // proof these are the text that was written and the bytes that were read, but no contract can say what is read from a file or written to
 // one. So a refill that drops the bytes of a read would meet every contract here: that it does not is seen in its few lines, and by the
-// tests. What `make_room` and `written` write, their contracts say of a writer whose bytes are known.
+// tests. What `make_room_in` and `written` write, their contracts say of a writer whose bytes are known.
 fn finish<W: Write, E: Write>(to: &mut W, err: &mut E, out: &[u8])
     requires { PrintedWhole replay out.now }
 {

@@ -20,6 +20,9 @@ pub text_put : (s : List ℕ) (held : Held) → (put s held).text ≡ held.text 
 unfolding put
 text_put s held = refl
 
+pub longer_put : (s : List ℕ) (held after : Held) → after ≡ put s held → length after.text ≡ length held.text + length s
+longer_put s held after is = ap (λ (h : Held). length h.text) is ∙ ap (λ (l : List ℕ). length l) (text_put s held) ∙ length-append held.text s
+
 pub left_put : (s : List ℕ) (held : Held) → length s ≤ left held → left (put s held) + length s ≡ left held
 unfolding put left
 left_put s held fits = omega (arith, fits, length-append held.text s)

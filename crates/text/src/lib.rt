@@ -14,6 +14,7 @@ ghost use Rattle.text.specs.Line.{number_word, end_of, centred_word, digits_of, 
 ghost use Rattle.text.specs.Line.{most_number, most_end, most_signed, most_bytes_word, most_written_words};
 
 pub use arguments::{arg, arg_count};
+use arrayvec::ArrayVec;
 use clock::Centred;
 pub use front::Front;
 pub use reason::fail;
@@ -42,6 +43,7 @@ pub fn put<O: Room>(out: &mut O, s: &[u8])
     requires { length s.now ≤ left (O.held out.old) }
     ensures put { O.held out.new ≡ put s.now (O.held out.old) }
     ensures left { left (O.held out.new) + length s.now ≡ left (O.held out.old) }
+    ensures text_bound { length (O.held out.new).text ≡ length (O.held out.old).text + length s.now }
     ensures same { room_of (O.held out.new) ≡ room_of (O.held out.old) }
 {
     out.put(s);
@@ -54,6 +56,7 @@ fn put_decimal_in<O: Room>(out: &mut O, n: u64, most: usize)
     requires { most ≤ left (O.held out.old) }
     ensures put { O.held out.new ≡ put (decimal_in most n) (O.held out.old) }
     ensures upper_bound { left (O.held out.old) ≤ left (O.held out.new) + most }
+    ensures text_bound { length (O.held out.new).text ≤ length (O.held out.old).text + most }
     ensures same { room_of (O.held out.new) ≡ room_of (O.held out.old) }
 {
     if most == 0 {
@@ -73,6 +76,7 @@ pub fn put_decimal<O: Room>(out: &mut O, n: u64)
     requires { most_digits ≤ left (O.held out.old) }
     ensures put { O.held out.new ≡ put (decimal_of n) (O.held out.old) }
     ensures upper_bound { left (O.held out.old) ≤ left (O.held out.new) + most_digits }
+    ensures text_bound { length (O.held out.new).text ≤ length (O.held out.old).text + most_digits }
     ensures same { room_of (O.held out.new) ≡ room_of (O.held out.old) }
 {
     put_decimal_in(out, n, MOST_DIGITS);
@@ -84,6 +88,7 @@ pub fn put_number<O: Room>(out: &mut O, n: u64)
     requires { most_number ≤ left (O.held out.old) }
     ensures put { O.held out.new ≡ put (number_word n) (O.held out.old) }
     ensures upper_bound { left (O.held out.old) ≤ left (O.held out.new) + most_number }
+    ensures text_bound { length (O.held out.new).text ≤ length (O.held out.old).text + most_number }
     ensures same { room_of (O.held out.new) ≡ room_of (O.held out.old) }
 {
     if n < 10 {
@@ -100,6 +105,7 @@ pub fn put_end<O: Room>(out: &mut O, count: u64)
     requires { most_end ≤ left (O.held out.old) }
     ensures put { O.held out.new ≡ put (end_of count) (O.held out.old) }
     ensures upper_bound { left (O.held out.old) ≤ left (O.held out.new) + most_end }
+    ensures text_bound { length (O.held out.new).text ≤ length (O.held out.old).text + most_end }
     ensures same { room_of (O.held out.new) ≡ room_of (O.held out.old) }
 {
     put(out, b"end");
@@ -113,6 +119,7 @@ pub fn put_centred<O: Room, T: Centred>(out: &mut O, centred: T)
     requires { most_signed ≤ left (O.held out.old) }
     ensures put { O.held out.new ≡ put (centred_word (T.number centred)) (O.held out.old) }
     ensures upper_bound { left (O.held out.old) ≤ left (O.held out.new) + most_signed }
+    ensures text_bound { length (O.held out.new).text ≤ length (O.held out.old).text + most_signed }
     ensures same { room_of (O.held out.new) ≡ room_of (O.held out.old) }
 {
     if centred.negative() {
@@ -156,6 +163,7 @@ fn put_digits<O: Room>(out: &mut O, s: &[u8])
     requires { 2 * length s.now ≤ left (O.held out.old) }
     ensures put { O.held out.new ≡ put (digits_of s.now) (O.held out.old) }
     ensures upper_bound { left (O.held out.old) ≤ left (O.held out.new) + 2 * length s.now }
+    ensures text_bound { length (O.held out.new).text ≤ length (O.held out.old).text + 2 * length s.now }
     ensures same { room_of (O.held out.new) ≡ room_of (O.held out.old) }
 {
     let mut rest = s;
@@ -174,6 +182,7 @@ pub fn put_bytes<O: Room>(out: &mut O, s: &[u8])
     requires { most_bytes_word (length s.now) ≤ left (O.held out.old) }
     ensures put { O.held out.new ≡ put (bytes_word s.now) (O.held out.old) }
     ensures upper_bound { left (O.held out.old) ≤ left (O.held out.new) + most_bytes_word (length s.now) }
+    ensures text_bound { length (O.held out.new).text ≤ length (O.held out.old).text + most_bytes_word (length s.now) }
     ensures same { room_of (O.held out.new) ≡ room_of (O.held out.old) }
 {
     if s.is_empty() {
@@ -203,6 +212,7 @@ pub fn put_written<O: Room>(out: &mut O, lent: &[u8], written: usize)
     requires { most_written_words (length lent.now) ≤ left (O.held out.old) }
     ensures put { O.held out.new ≡ put (written_words lent.now written) (O.held out.old) }
     ensures upper_bound { left (O.held out.old) ≤ left (O.held out.new) + most_written_words (length lent.now) }
+    ensures text_bound { length (O.held out.new).text ≤ length (O.held out.old).text + most_written_words (length lent.now) }
     ensures same { room_of (O.held out.new) ≡ room_of (O.held out.old) }
 {
     let (first, rest) = lent.split_at(written.min(lent.len()));
@@ -224,7 +234,7 @@ pub fn written<W: Write, E: Write>(to: &mut W, err: &mut E, text: &[u8]) -> io::
 }
 
 // Makes room for so many bytes behind a text: where there is not enough, the text is written, and an empty one left.
-pub fn make_room<W: Write, E: Write, O: Holds>(
+pub fn make_room_in<W: Write, E: Write, O: Holds>(
     to: &mut W,
     err: &mut E,
     out: &mut O,
@@ -243,6 +253,25 @@ pub fn make_room<W: Write, E: Write, O: Holds>(
     let written = written(to, err, out.text());
     out.empty();
     written
+}
+
+// The same in an array of so many bytes.
+#[tactic(auto, unfolding(crate::specs::Text::left))]
+pub fn make_room<W: Write, E: Write, const N: usize>(
+    to: &mut W,
+    err: &mut E,
+    out: &mut ArrayVec<u8, N>,
+    most: usize,
+) -> io::Result<()>
+    requires { most ≤ N }
+    ensures value { out.new.items ≡ held_of most N out.old.items }
+    ensures most_in_bounds { length out.new.items + most ≤ N }
+    ensures writes { OnOk result (RoomMade (W.contents to.old) (W.contents to.new) out.old.items out.new.items) }
+{
+    let made = make_room_in(to, err, out, most);
+    // An array holds no more than its size, as the kit says of what is left.
+    let _within = out.remaining_capacity();
+    made
 }
 
 // Says these lines on standard error.
@@ -265,7 +294,6 @@ pub fn chosen_of<T: Copy>(word: &[u8], words: &[(&[u8], T)]) -> Option<T>
 #[cfg(test)]
 mod tests {
     use super::*;
-    use arrayvec::ArrayVec;
 
     // A text goes behind what the writer has.
     #[test]

@@ -16,7 +16,7 @@ returns g c =
     let second = made.second in
     let lent = made.with_them in
     let after = advance.ensures.lies_2 in
-    let held = c.make_room.ensures.text in
+    let held = c.make_room_in.ensures.text in
     let turned : TurnOf a.normal.now a.redundant.now a.told.callers.now a.told.ours a.p g.row.N a.out.now.items windows.new.normal windows.new.redundant advance.new.out.items advance.result = record {
       first = first;
       second = second;
@@ -25,7 +25,7 @@ returns g c =
           subst (λ (l : List ℕ).
           AdvancedTo windows.new.normal windows.new.redundant a.told.callers.now a.told.ours (windowed first.window second.window a.p) l advance.new.out.items advance.result)
           held
-          (subst (λ (q : Progress). AdvancedTo windows.new.normal windows.new.redundant a.told.callers.now a.told.ours q c.make_room.new.out.items advance.new.out.items advance.result) lent
+          (subst (λ (q : Progress). AdvancedTo windows.new.normal windows.new.redundant a.told.callers.now a.told.ours q c.make_room_in.new.out.items advance.new.out.items advance.result) lent
           advance.ensures.advanced_to);
     } in (
       turned,

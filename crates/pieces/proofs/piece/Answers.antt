@@ -10,7 +10,7 @@ returns-clause-piece g c =
     let laws = g.met.M.TakesTurnsIn in
     let a = c.args in
     let held = g.O.Holds.held in
-    let room = c.make_room in
+    let room = c.make_room_in in
     let up = c.top_up in
     let n = c.advance.new in
     piece_of m.machine (held a.out.now).size a.input.now.buffer a.input.now.window a.state.now a.lent.now (held a.out.now).text

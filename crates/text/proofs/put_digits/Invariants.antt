@@ -9,6 +9,7 @@ invariant-loop-part g l =
     let held = g.O.Holds.held in
     record {
       room : left (held l.initial.out) + 2 * length l.rest ≡ left (held l.out) + 2 * length l.s;
+      text : length (held l.out).text + 2 * length l.rest ≡ length (held l.initial.out).text + 2 * length l.s;
       put : put (digits_of l.rest) (held l.out) ≡ put (digits_of l.s) (held l.initial.out);
       same : room_of (held l.out) ≡ room_of (held l.initial.out);
     }

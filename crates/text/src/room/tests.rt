@@ -3,7 +3,7 @@ ghost use Rattle.std.specs.Prelude.{◌+◌, ◌≤◌, length};
 ghost use Rattle.text.specs.Text.{PutAt};
 
 use super::*;
-use crate::{Front, make_room, put, put_number};
+use crate::{Front, make_room_in, put, put_number};
 
 // Puts bytes into a lent buffer at a place, by a part of it, and answers the place after them.
 fn put_at(out: &mut [u8], at: usize, s: &[u8]) -> usize
@@ -45,11 +45,11 @@ fn makes_room_in_a_part(rt: HostRuntime) {
     let mut out = *b"abcd";
     let mut part = Part::new(&mut out, 3);
     assert!(rt;
-        make_room(&mut to, &mut err, &mut part, 1).is_ok() && part.at == 3 && to.is_empty(),
+        make_room_in(&mut to, &mut err, &mut part, 1).is_ok() && part.at == 3 && to.is_empty(),
         "there is room"
     );
     assert!(rt;
-        make_room(&mut to, &mut err, &mut part, 2).is_ok()
+        make_room_in(&mut to, &mut err, &mut part, 2).is_ok()
             && part.at == 0
             && to.as_slice() == b"abc".as_slice(),
         "there is none"
@@ -67,11 +67,11 @@ fn makes_room_in_a_front(rt: HostRuntime) {
         at: 3,
     };
     assert!(rt;
-        make_room(&mut to, &mut err, &mut front, 1).is_ok() && front.at == 3 && to.is_empty(),
+        make_room_in(&mut to, &mut err, &mut front, 1).is_ok() && front.at == 3 && to.is_empty(),
         "there is room"
     );
     assert!(rt;
-        make_room(&mut to, &mut err, &mut front, 2).is_ok()
+        make_room_in(&mut to, &mut err, &mut front, 2).is_ok()
             && front.at == 0
             && to.as_slice() == b"abc".as_slice(),
         "there is none"

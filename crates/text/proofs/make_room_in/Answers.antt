@@ -1,8 +1,8 @@
--- `text::make_room` meets its contract: there is room, or the text is written. Assumes nothing.
+-- `text::make_room_in` meets its contract: there is room, or the text is written. Assumes nothing.
 use Rattle.std.proofs.Common.{sym, ◌∙◌, ◌≤◌, ◌<◌, arith}
 use Rattle.text.specs.Text.{left}
 use Rattle.text.proofs.Places.{room_here, room_none, text_here, text_none, all_left}
-use Rattle.text.proofs.make_room.Goals as goal
+use Rattle.text.proofs.make_room_in.Goals as goal
 
 pub returns-then-most-left-clause-value : goal.returns-then-most-left-clause-value
 returns-then-most-left-clause-value g c =
