@@ -133,7 +133,7 @@ fn put_line<O: Room>(out: &mut O, answer: Answer, table: &[Connection], bytes: &
 pub fn table_at<O: Room>(s: &[u8], out: &mut O) -> Option<usize>
     requires { most_table_text ≤ left (O.held out.old) }
     ensures text { left (O.held out.old) ≤ left (O.held out.new) + most_table_text }
-    ensures text_bound { length (O.held out.new).text ≤ length (O.held out.old).text + most_table_text }
+    ensures len { length (O.held out.new).text ≤ length (O.held out.old).text + most_table_text }
     ensures same { room_of (O.held out.new) ≡ room_of (O.held out.old) }
     ensures used { IfSome result (λ used. used ≤ length s.now) }
 {

@@ -124,8 +124,8 @@ fn both_topped_up<R: Read, E: Write>(
 
 // Writes the rest of the text: with what was written before, it is what is printed for the bytes that were read of both files, by what the
 // steps go by (recording's proofs/Turns), which is here for the contract alone. No contract can say what is read from a file or written to
-// one: that the calls which read hand over a file's next bytes is all that stands between the files and the printed text. What `make_room_in`
-// and `written` write, their contracts say of a writer whose bytes are known.
+// one: that the calls which read hand over a file's next bytes is all that stands between the files and the printed text. What
+// `make_room_in` and `written` write, their contracts say of a writer whose bytes are known.
 fn finish<W: Write, E: Write>(to: &mut W, err: &mut E, out: &[u8], told: Told) -> Option<()>
     requires { PrintedWhole told.callers.now told.ours told.state out.now }
 {

@@ -76,7 +76,7 @@ fn put_packet<O: Room>(out: &mut O, given: Packet, data: &[u8], lent: &mut [u8])
 pub fn packet_at<O: Room>(s: &[u8], out: &mut O) -> Option<usize>
     requires { most_packet_text ≤ left (O.held out.old) }
     ensures text { left (O.held out.old) ≤ left (O.held out.new) + most_packet_text }
-    ensures text_bound { length (O.held out.new).text ≤ length (O.held out.old).text + most_packet_text }
+    ensures len { length (O.held out.new).text ≤ length (O.held out.old).text + most_packet_text }
     ensures same { room_of (O.held out.new) ≡ room_of (O.held out.old) }
     ensures used { IfSome result (λ used. used ≤ length s.now) }
 {

@@ -202,7 +202,7 @@ fn put_step<O: Room>(out: &mut O, lent: Lent)
 pub fn step_at<O: Room>(s: &[u8], out: &mut O) -> Option<usize>
     requires { most_step_text ≤ left (O.held out.old) }
     ensures text { left (O.held out.old) ≤ left (O.held out.new) + most_step_text }
-    ensures text_bound { length (O.held out.new).text ≤ length (O.held out.old).text + most_step_text }
+    ensures len { length (O.held out.new).text ≤ length (O.held out.old).text + most_step_text }
     ensures same { room_of (O.held out.new) ≡ room_of (O.held out.old) }
     ensures used { IfSome result (λ used. used ≤ length s.now) }
 {

@@ -90,7 +90,7 @@ fn put_message<O: Room>(out: &mut O, s: &[u8])
 pub fn message_at<O: Room>(s: &[u8], out: &mut O) -> Option<usize>
     requires { most_message_text ≤ left (O.held out.old) }
     ensures text { left (O.held out.old) ≤ left (O.held out.new) + most_message_text }
-    ensures text_bound { length (O.held out.new).text ≤ length (O.held out.old).text + most_message_text }
+    ensures len { length (O.held out.new).text ≤ length (O.held out.old).text + most_message_text }
     ensures same { room_of (O.held out.new) ≡ room_of (O.held out.old) }
     ensures used { IfSome result (λ used. used ≤ length s.now) }
 {

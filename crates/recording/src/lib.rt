@@ -119,7 +119,7 @@ pub fn put_line<O: Room>(out: &mut O, taken: Taken)
     requires { most_line ≤ left (O.held out.old) }
     ensures put { O.held out.new ≡ put (line_of taken) (O.held out.old) }
     ensures upper_bound { left (O.held out.old) ≤ left (O.held out.new) + most_line }
-    ensures text_bound { length (O.held out.new).text ≤ length (O.held out.old).text + most_line }
+    ensures len { length (O.held out.new).text ≤ length (O.held out.old).text + most_line }
     ensures same { room_of (O.held out.new) ≡ room_of (O.held out.old) }
 {
     put_counted(out, taken, taken.size);
@@ -230,7 +230,7 @@ pub fn advance<'a, O: Room>(
     ensures same { room_of (O.held out.new) ≡ room_of (O.held out.old) }
     ensures lies_2 { Lies result (length normal.now) (length redundant.now)
         × (result.handed_up ≤ p.handed_up + 1) × (left (O.held out.old) ≤ left (O.held out.new) + most_line) }
-    ensures text_bound { length (O.held out.new).text ≤ length (O.held out.old).text + most_line }
+    ensures line_len { length (O.held out.new).text ≤ length (O.held out.old).text + most_line }
 {
     let taken = taken_at(normal, redundant, callers, ours, p);
     let size = count_data(normal, redundant, p, taken);

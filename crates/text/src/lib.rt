@@ -43,7 +43,7 @@ pub fn put<O: Room>(out: &mut O, s: &[u8])
     requires { length s.now ≤ left (O.held out.old) }
     ensures put { O.held out.new ≡ put s.now (O.held out.old) }
     ensures left { left (O.held out.new) + length s.now ≡ left (O.held out.old) }
-    ensures text_bound { length (O.held out.new).text ≡ length (O.held out.old).text + length s.now }
+    ensures len { length (O.held out.new).text ≡ length (O.held out.old).text + length s.now }
     ensures same { room_of (O.held out.new) ≡ room_of (O.held out.old) }
 {
     out.put(s);
@@ -76,7 +76,7 @@ pub fn put_decimal<O: Room>(out: &mut O, n: u64)
     requires { most_digits ≤ left (O.held out.old) }
     ensures put { O.held out.new ≡ put (decimal_of n) (O.held out.old) }
     ensures upper_bound { left (O.held out.old) ≤ left (O.held out.new) + most_digits }
-    ensures text_bound { length (O.held out.new).text ≤ length (O.held out.old).text + most_digits }
+    ensures len { length (O.held out.new).text ≤ length (O.held out.old).text + most_digits }
     ensures same { room_of (O.held out.new) ≡ room_of (O.held out.old) }
 {
     put_decimal_in(out, n, MOST_DIGITS);
@@ -88,7 +88,7 @@ pub fn put_number<O: Room>(out: &mut O, n: u64)
     requires { most_number ≤ left (O.held out.old) }
     ensures put { O.held out.new ≡ put (number_word n) (O.held out.old) }
     ensures upper_bound { left (O.held out.old) ≤ left (O.held out.new) + most_number }
-    ensures text_bound { length (O.held out.new).text ≤ length (O.held out.old).text + most_number }
+    ensures len { length (O.held out.new).text ≤ length (O.held out.old).text + most_number }
     ensures same { room_of (O.held out.new) ≡ room_of (O.held out.old) }
 {
     if n < 10 {
@@ -105,7 +105,7 @@ pub fn put_end<O: Room>(out: &mut O, count: u64)
     requires { most_end ≤ left (O.held out.old) }
     ensures put { O.held out.new ≡ put (end_of count) (O.held out.old) }
     ensures upper_bound { left (O.held out.old) ≤ left (O.held out.new) + most_end }
-    ensures text_bound { length (O.held out.new).text ≤ length (O.held out.old).text + most_end }
+    ensures len { length (O.held out.new).text ≤ length (O.held out.old).text + most_end }
     ensures same { room_of (O.held out.new) ≡ room_of (O.held out.old) }
 {
     put(out, b"end");
@@ -119,7 +119,7 @@ pub fn put_centred<O: Room, T: Centred>(out: &mut O, centred: T)
     requires { most_signed ≤ left (O.held out.old) }
     ensures put { O.held out.new ≡ put (centred_word (T.number centred)) (O.held out.old) }
     ensures upper_bound { left (O.held out.old) ≤ left (O.held out.new) + most_signed }
-    ensures text_bound { length (O.held out.new).text ≤ length (O.held out.old).text + most_signed }
+    ensures len { length (O.held out.new).text ≤ length (O.held out.old).text + most_signed }
     ensures same { room_of (O.held out.new) ≡ room_of (O.held out.old) }
 {
     if centred.negative() {
@@ -182,7 +182,7 @@ pub fn put_bytes<O: Room>(out: &mut O, s: &[u8])
     requires { most_bytes_word (length s.now) ≤ left (O.held out.old) }
     ensures put { O.held out.new ≡ put (bytes_word s.now) (O.held out.old) }
     ensures upper_bound { left (O.held out.old) ≤ left (O.held out.new) + most_bytes_word (length s.now) }
-    ensures text_bound { length (O.held out.new).text ≤ length (O.held out.old).text + most_bytes_word (length s.now) }
+    ensures len { length (O.held out.new).text ≤ length (O.held out.old).text + most_bytes_word (length s.now) }
     ensures same { room_of (O.held out.new) ≡ room_of (O.held out.old) }
 {
     if s.is_empty() {
@@ -212,7 +212,7 @@ pub fn put_written<O: Room>(out: &mut O, lent: &[u8], written: usize)
     requires { most_written_words (length lent.now) ≤ left (O.held out.old) }
     ensures put { O.held out.new ≡ put (written_words lent.now written) (O.held out.old) }
     ensures upper_bound { left (O.held out.old) ≤ left (O.held out.new) + most_written_words (length lent.now) }
-    ensures text_bound { length (O.held out.new).text ≤ length (O.held out.old).text + most_written_words (length lent.now) }
+    ensures len { length (O.held out.new).text ≤ length (O.held out.old).text + most_written_words (length lent.now) }
     ensures same { room_of (O.held out.new) ≡ room_of (O.held out.old) }
 {
     let (first, rest) = lent.split_at(written.min(lent.len()));

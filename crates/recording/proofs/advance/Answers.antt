@@ -45,5 +45,5 @@ returns g c =
       put = put;
       same = line.ensures.same;
       lies_2 = (lies.0, lies.1, line.ensures.upper_bound);
-      text_bound = line.ensures.text_bound;
+      line_len = line.ensures.text_bound;
     }

@@ -16,7 +16,7 @@ loop-part-preserved g c =
     let cut = c.in-Some.ensures.cases in
     record {
       room = omega (arith, l.invariant.room, c.put.ensures.left, ap (λ (l : List ℕ). length l) cut.1);
-      text = omega (arith, l.invariant.text, c.put.ensures.text_bound, ap (λ (l : List ℕ). length l) cut.1);
+      text = omega (arith, l.invariant.text, c.put.ensures.len, ap (λ (l : List ℕ). length l) cut.1);
       put =
           ap (put (digits_of behind)) c.put.ensures.put
           ∙ put_put c.digits_of.result (digits_of behind) held
