@@ -1,16 +1,16 @@
--- A small machine: each byte is printed at a turn of its own, and it stops where none is left.
+-- A small machine, for the tests: each byte is printed at a turn of its own, and it stops where none is left.
 -- Assumes nothing.
 use Rattle.std.specs.Prelude.{ℕ, ◌+◌, ◌*◌, ◌≤◌, ◌≡◌, Bool, true, false, List, [], ◌∷◌, ◌++◌, length}
 use Rattle.std.proofs.Common.{refl, sym, arith}
 use mathlib.Core.Bool.{false≢true}
 use Rattle.pieces.specs.Machine.{Turn, Machine, Lawful}
 
--- TRACE-16: a turn of it
+-- a turn of it
 unfoldable pub echo_turn : List ℕ → Turn Bool
 echo_turn [] = record { text = []; used = 0; next = true; lent = λ lent. lent }
 echo_turn (byte ∷ rest) = record { text = byte ∷ []; used = 1; next = false; lent = λ lent. lent }
 
--- TRACE-16: the machine, whose state is whether it has stopped
+-- the machine, whose state is whether it has stopped
 abbrev pub echo : Machine Bool
 echo = record {
   first = false;

@@ -1,4 +1,4 @@
--- A turn with an array for its text is one whose text is put into that array. Assumes nothing.
+-- A turn whose text is put into an array has the room there that it asks for. Assumes nothing.
 use Rattle.std.proofs.Common.{arith, rules}
 use Rattle.text.specs.Text.{left}
 use Rattle.pieces.proofs.AnyTakesTurnsInArrayVecU8.turn.Goals as goal
